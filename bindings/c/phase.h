@@ -187,7 +187,8 @@ enum {
     PHASE_ENDED = 1,
     /* Of phase_shared.h alone: the phase is signalled, and its wait is still to be made. */
     PHASE_SIGNALLED = 2,
-    /* Of the phase_member calls alone: the registration asks for its next phase. */
+    /* Of phase_shared.h alone: the registration asks others for its next phase, and the wait is
+     * still to be made. */
     PHASE_ASKED = 3,
     /* There is no phaser. */
     PHASE_E_NO_PHASER = -20,

@@ -9,6 +9,7 @@
 #include "phase_shared.h"
 #include <chrono>
 #include <exception>
+#include <string>
 #include <utility>
 #include <vector>
 
@@ -227,12 +228,29 @@ public:
         return numbers;
     }
 
+    /* Who is missing, for the words of an error, as phase_shared_lacks has it. */
+    std::string lacks()
+    {
+        char text[PHASE_LACKS_MAX];
+        phase_shared_lacks(&it_, text, sizeof text);
+        return text;
+    }
+
     /* What it stands at: all zero where there is none. */
     phase_member_standing view()
     {
         phase_member_standing standing = {0, 0, 0, 0, 0};
         phase_shared_view(&it_, &standing);
         return standing;
+    }
+
+    /* How many phases of next and its forms others' turns made for it, for which it took none: 0
+     * where there is none. */
+    uint64_t answers() const
+    {
+        uint64_t count = 0;
+        phase_shared_answers(&it_, &count);
+        return count;
     }
 
     /* Leaves, where there is one. */
@@ -314,7 +332,8 @@ private:
 };
 
 /* Closes the phaser of a registration where an exception ends the scope that this is in. It stands
- * behind the registration, which leaves after it. */
+ * behind the registration, which leaves after it. It closes nothing where the registration has left
+ * by then, or was moved on: so it is made where the registration stays. */
 class closing {
 public:
     explicit closing(registration &lent) : lent_(lent) {}

@@ -15,18 +15,25 @@
  *
  * Calls have three forms. The plain one waits as long as it takes, and is answered neither
  * PHASE_E_AHEAD nor PHASE_E_NOT_YET. The one with _for tries for so many nanoseconds, or a little
- * longer, and then the answer is that of its last try, which may be one of these. The one with try_
- * tries once: it may be answered so, too, and it alone PHASE_E_BUSY, while another call on the
- * phaser is in the middle. Where others are in the middle all the time, the form with _for answers
- * PHASE_E_AHEAD of a signal and PHASE_E_NOT_YET of a wait; phase_shared_next_for has made its
- * signal by then or has not: PHASE_SIGNALLED says that it has. Where it asked others to make it, it
- * waits for its turn to ask no more. A thread that has waited for more than some microseconds
- * sleeps. Behind `Refused as` stand all negative statuses of the three forms, in the order in which
- * they are looked for; where a call was tried too early or was busy, it is looked at anew.
+ * longer, and then the answer is that of its last try, which may be one of these; 0 is a few tries.
+ * The one with try_ tries once: it may be answered so, too, and it alone PHASE_E_BUSY, while
+ * another call on the phaser is in the middle. Where others are in the middle all the time, the
+ * form with _for answers PHASE_E_AHEAD of a signal and PHASE_E_NOT_YET of a wait. A thread that has
+ * waited for more than some microseconds sleeps. Behind `Refused as` stand all negative statuses of
+ * the three forms, in the order in which they are looked for; where a call was tried too early or
+ * was busy, it is looked at anew.
+ *
+ * phase_shared_next_for has made its signal when its time is over, or has not: PHASE_SIGNALLED says
+ * that it has. PHASE_ASKED says that it has asked others to make it, and did not get its turn since
+ * to see whether they did. Its ask stands until the next call that waits, registers, counts who is
+ * missing or leaves, which ends it first, at its turn. The wait is told what came of it: the phase,
+ * or what its signal was refused as, also as PHASE_E_AHEAD, and then nothing was sent. Before that
+ * calls that signal are PHASE_E_SIGNAL_TWICE, and it may be that nobody makes the signal.
  *
  * A program in which one thread may fail, and leave the others to wait for ever, takes the calls
  * with _or_closed: they wait no longer once a thread has called phase_shared_close. Who is missing
- * where nothing goes on tells phase_shared_missing.
+ * where nothing goes on tells phase_shared_missing, and phase_shared_lacks in the words that an
+ * error has whose time was over.
  *
  * What a thread did before its signal is seen by every thread that got the phase: each call is a
  * sequentially consistent exchange on one word of the phaser.
@@ -91,11 +98,15 @@ typedef struct phase_registration {
     uint32_t mode;
     uint32_t soon;     /* how soon others come */
     uint64_t crowded;  /* whether others want the processor */
-    uint64_t apart[8]; /* nothing: threads do not write beside each other's in an array */
+    uint64_t answers;  /* how many phases others' turns made for it */
+    uint32_t asks;     /* whether an ask stands, or what came of it is still to be got */
+    int32_t outcome;   /* what came of it */
+    int64_t kept;      /* and the value */
+    uint64_t apart[5]; /* nothing: threads do not write beside each other's in an array */
 } phase_registration;
 
 /* A place with no registration. */
-#define PHASE_REGISTRATION_INIT {{NULL, false}, NULL, 0, 0, 0, 0, 0, 0, {0}}
+#define PHASE_REGISTRATION_INIT {{NULL, false}, NULL, 0, 0, 0, 0, 0, 0, 0, 0, 0, 0, {0}}
 
 /* Makes a phaser of at most this many phases, whose signallers may be `bound` phases ahead of its
  * slowest waiter, and its founder, in the mode PHASE_SINGLE at phase 0. Where threads meet at a
@@ -151,7 +162,7 @@ int32_t phase_shared_signal_for(phase_registration *registration,
  *
  * The answer is PHASE_SIGNALLED where the mode signals alone; or, of the forms that do not wait
  * until the end, where the phase is signalled and not complete yet. phase_shared_wait, or one of
- * its forms, then gets it.
+ * its forms, then gets it. With a time limit it may also be PHASE_ASKED, as said above.
  *
  * Refused as phase_shared_signal is. */
 int32_t phase_shared_next(phase_registration *registration,
@@ -232,6 +243,15 @@ int32_t phase_shared_missing(phase_registration *registration, phase_member_coun
 int32_t phase_shared_try_missing(phase_registration *registration, phase_member_counts *counts,
                                  uint64_t *places, size_t places_len);
 
+/* Writes who is missing as a text that ends in a zero, for the words of an error, as `phase 7 lacks
+ * the signal of 1, 4 and 2 more`. It names 16 at most, and the text is cut where it is longer than
+ * text_len, which PHASE_LACKS_MAX never is too short for. It is empty where nobody is missing, and
+ * where the call is refused. It waits for nothing.
+ *
+ * Refused as PHASE_E_NO_PHASER, PHASE_E_BUSY. */
+int32_t phase_shared_lacks(phase_registration *registration, char *text, size_t text_len);
+enum { PHASE_LACKS_MAX = 512 };
+
 /* Closes the phaser, for ever: who waits by a call with _or_closed comes back, and no such call
  * waits from then on. Every other call goes on as before, and nothing is lost that was sent or is
  * complete. It is for a thread that fails. Any thread may call it, also while another is in the
@@ -288,6 +308,11 @@ int32_t phase_shared_view(phase_registration *registration, phase_member_standin
  * complete, and every waiter got those below base. Each is UINT64_MAX where nobody is left to wait
  * for. Neither ever falls. It is a hint for when to try, and takes no turn. */
 int32_t phase_shared_told(phase_registration *registration, uint64_t *done, uint64_t *base);
+
+/* Writes how many phases of phase_shared_next, and of its other forms, others' turns made for the
+ * registration: it asked for them, and took no turn for the answer. It takes no turn. Refused as
+ * PHASE_E_NO_PHASER. */
+int32_t phase_shared_answers(const phase_registration *registration, uint64_t *answers);
 
 /* What phase_status_text says, as a call of the library, for whoever cannot read the header. */
 const char *phase_shared_status_text(int32_t status);

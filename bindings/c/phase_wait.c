@@ -239,6 +239,17 @@ struct patience {
     const struct phase_gate *heeds; /* that of a phaser at whose close the time is over, or none */
 };
 
+/* The time of a call, and of one that ends where the phaser is closed. */
+static struct patience within(uint64_t nanoseconds)
+{
+    return (struct patience){.nanoseconds = nanoseconds};
+}
+
+static struct patience heeding(const phase_registration *registration, uint64_t nanoseconds)
+{
+    return (struct patience){.nanoseconds = nanoseconds, .heeds = registration->gate};
+}
+
 static uint64_t now(void)
 {
     struct timespec time;
@@ -439,6 +450,50 @@ static inline bool waits_again(phase_registration *registration, int32_t *status
            && has_time_to_wait(registration, status, patience);
 }
 
+/* ---- An ask that stands. */
+
+/* Whether a registration rests, asks behind a call whose time was over, or has asked, and a wait
+ * has still to get what came of it. */
+enum { RESTS, ASKS, HAS_ANSWER };
+
+/* Notes what came of a next phase, and wakes who sleeps for it. */
+static void go_on(phase_registration *registration, int32_t status, uint64_t phase)
+{
+    if (status < 0)
+        return;
+    registration->signal_phase = phase + 1;
+    if (status == PHASE_OK)
+        registration->wait_phase = phase + 1;
+    tell(registration);
+}
+
+/* Ends the ask of a registration, where one stands, and keeps what came of it for a wait. The
+ * answer is PHASE_E_BUSY where the turn was another's: then it stands. */
+static int32_t end_ask(phase_registration *registration)
+{
+    uint64_t phase = 0;
+    if (registration->asks != ASKS)
+        return PHASE_OK;
+    int32_t status = phase_member_take_back(&registration->member, &phase, &registration->kept);
+    if (status == PHASE_E_BUSY)
+        return status;
+    registration->asks = status == PHASE_SIGNALLED ? RESTS : HAS_ANSWER;
+    registration->outcome = status;
+    go_on(registration, status, phase);
+    return PHASE_OK;
+}
+
+/* Gets what came of it. */
+static int32_t get_answer(phase_registration *registration, uint64_t *phase, int64_t *value)
+{
+    registration->asks = RESTS;
+    if (registration->outcome == PHASE_OK) {
+        *phase = registration->wait_phase - 1;
+        *value = registration->kept;
+    }
+    return registration->outcome;
+}
+
 /* ---- Registering and leaving. */
 
 int32_t phase_shared_new(uint32_t operation, uint64_t bound, uint64_t phases,
@@ -463,6 +518,8 @@ int32_t phase_shared_new(uint32_t operation, uint64_t bound, uint64_t phases,
     founder->mode = PHASE_SINGLE;
     founder->soon = SOON;
     founder->crowded = 0;
+    founder->answers = 0;
+    founder->asks = RESTS;
     return PHASE_OK;
 }
 
@@ -477,12 +534,16 @@ static void fill(phase_registration *parent, uint32_t mode, phase_registration *
     child->mode = mode;
     child->soon = SOON;
     child->crowded = 0;
+    child->answers = 0;
+    child->asks = RESTS;
 }
 
 int32_t phase_shared_try_register(phase_registration *parent, uint32_t mode,
                                   phase_registration *child)
 {
-    int32_t status = phase_member_register(&parent->member, mode, &child->member);
+    int32_t status = end_ask(parent);
+    if (status == PHASE_OK)
+        status = phase_member_register(&parent->member, mode, &child->member);
     if (status == PHASE_OK)
         fill(parent, mode, child);
     return status;
@@ -491,7 +552,7 @@ int32_t phase_shared_try_register(phase_registration *parent, uint32_t mode,
 int32_t phase_shared_register(phase_registration *parent, uint32_t mode,
                               phase_registration *child)
 {
-    struct patience patience = {.nanoseconds = FOR_EVER};
+    struct patience patience = within(FOR_EVER);
     int32_t status;
     while ((status = phase_shared_try_register(parent, mode, child)) == PHASE_E_BUSY)
         snooze(parent, &patience);
@@ -504,7 +565,9 @@ int32_t phase_shared_try_register_now(phase_registration *parent, phase_registra
     uint64_t unread;
     if (phase == NULL)
         phase = &unread;
-    int32_t status = phase_member_register_now(&parent->member, &child->member, phase);
+    int32_t status = end_ask(parent);
+    if (status == PHASE_OK)
+        status = phase_member_register_now(&parent->member, &child->member, phase);
     if (status == PHASE_OK) {
         fill(parent, PHASE_WAIT, child);
         child->signal_phase = *phase;
@@ -516,7 +579,7 @@ int32_t phase_shared_try_register_now(phase_registration *parent, phase_registra
 int32_t phase_shared_register_now(phase_registration *parent, phase_registration *child,
                                   uint64_t *phase)
 {
-    struct patience patience = {.nanoseconds = FOR_EVER};
+    struct patience patience = within(FOR_EVER);
     int32_t status;
     while ((status = phase_shared_try_register_now(parent, child, phase)) == PHASE_E_BUSY)
         snooze(parent, &patience);
@@ -525,11 +588,14 @@ int32_t phase_shared_register_now(phase_registration *parent, phase_registration
 
 int32_t phase_shared_try_leave(phase_registration *registration)
 {
-    int32_t status = phase_member_leave(&registration->member);
+    int32_t status = end_ask(registration);
+    if (status == PHASE_OK)
+        status = phase_member_leave(&registration->member);
     if (status != PHASE_OK)
         return status;
     struct phase_gate *gate = registration->gate;
     registration->gate = NULL;
+    registration->asks = RESTS;
     ring(&gate->done);
     ring(&gate->base);
     gate_leave(gate);
@@ -538,7 +604,7 @@ int32_t phase_shared_try_leave(phase_registration *registration)
 
 int32_t phase_shared_leave(phase_registration *registration)
 {
-    struct patience patience = {.nanoseconds = FOR_EVER};
+    struct patience patience = within(FOR_EVER);
     int32_t status;
     while ((status = phase_shared_try_leave(registration)) == PHASE_E_BUSY)
         snooze(registration, &patience);
@@ -554,6 +620,8 @@ int32_t phase_shared_try_signal(phase_registration *registration,
     uint64_t unread;
     if (phase == NULL)
         phase = &unread;
+    if (registration->asks != RESTS)
+        return PHASE_E_SIGNAL_TWICE;
     int32_t status = phase_member_signal(&registration->member, values, values_len, single, low,
                                          high, phase);
     if (status == PHASE_OK) {
@@ -563,18 +631,25 @@ int32_t phase_shared_try_signal(phase_registration *registration,
     return status;
 }
 
-int32_t phase_shared_signal_for(phase_registration *registration,
-                                const int64_t *values, size_t values_len,
-                                uint32_t single, int64_t low, int64_t high, uint64_t *phase,
-                                uint64_t nanoseconds)
+static int32_t signal_with(phase_registration *registration, const int64_t *values,
+                           size_t values_len, uint32_t single, int64_t low, int64_t high,
+                           uint64_t *phase, struct patience patience)
 {
-    struct patience patience = {.nanoseconds = nanoseconds};
     int32_t status;
     do
         status = phase_shared_try_signal(registration, values, values_len, single, low, high,
                                          phase);
     while (signals_again(registration, 1, &status, &patience));
     return status;
+}
+
+int32_t phase_shared_signal_for(phase_registration *registration,
+                                const int64_t *values, size_t values_len,
+                                uint32_t single, int64_t low, int64_t high, uint64_t *phase,
+                                uint64_t nanoseconds)
+{
+    return signal_with(registration, values, values_len, single, low, high, phase,
+                       within(nanoseconds));
 }
 
 int32_t phase_shared_signal(phase_registration *registration,
@@ -593,6 +668,8 @@ int32_t phase_shared_try_signal_block(phase_registration *registration,
     uint64_t unread;
     if (phase == NULL)
         phase = &unread;
+    if (registration->asks != RESTS)
+        return PHASE_E_SIGNAL_TWICE;
     int32_t status = phase_member_signal_block(&registration->member, values, values_len, single,
                                                low, high, phase);
     if (status == PHASE_OK) {
@@ -602,18 +679,25 @@ int32_t phase_shared_try_signal_block(phase_registration *registration,
     return status;
 }
 
-int32_t phase_shared_signal_block_for(phase_registration *registration,
-                                      const int64_t *values, size_t values_len,
-                                      uint32_t single, int64_t low, int64_t high,
-                                      uint64_t *phase, uint64_t nanoseconds)
+static int32_t signal_block_with(phase_registration *registration, const int64_t *values,
+                                 size_t values_len, uint32_t single, int64_t low, int64_t high,
+                                 uint64_t *phase, struct patience patience)
 {
-    struct patience patience = {.nanoseconds = nanoseconds};
     int32_t status;
     do
         status = phase_shared_try_signal_block(registration, values, values_len, single, low,
                                                high, phase);
     while (signals_again(registration, values_len, &status, &patience));
     return status;
+}
+
+int32_t phase_shared_signal_block_for(phase_registration *registration,
+                                      const int64_t *values, size_t values_len,
+                                      uint32_t single, int64_t low, int64_t high,
+                                      uint64_t *phase, uint64_t nanoseconds)
+{
+    return signal_block_with(registration, values, values_len, single, low, high, phase,
+                             within(nanoseconds));
 }
 
 int32_t phase_shared_signal_block(phase_registration *registration,
@@ -634,7 +718,12 @@ int32_t phase_shared_try_wait(phase_registration *registration, uint64_t *phase,
         phase = &unread;
     if (value == NULL)
         value = &unused;
-    int32_t status = phase_member_wait(&registration->member, phase, value);
+    int32_t status = end_ask(registration);
+    if (status != PHASE_OK)
+        return status;
+    if (registration->asks == HAS_ANSWER)
+        return get_answer(registration, phase, value);
+    status = phase_member_wait(&registration->member, phase, value);
     if (status == PHASE_OK) {
         registration->wait_phase = *phase + 1;
         tell(registration);
@@ -643,21 +732,20 @@ int32_t phase_shared_try_wait(phase_registration *registration, uint64_t *phase,
 }
 
 static int32_t wait_with(phase_registration *registration, uint64_t *phase, int64_t *value,
-                         struct patience *patience)
+                         struct patience patience)
 {
     int32_t status;
     do {
-        pause_for_phase(registration, 1, patience);
+        pause_for_phase(registration, 1, &patience);
         status = phase_shared_try_wait(registration, phase, value);
-    } while (waits_again(registration, &status, patience));
+    } while (waits_again(registration, &status, &patience));
     return status;
 }
 
 int32_t phase_shared_wait_for(phase_registration *registration, uint64_t *phase, int64_t *value,
                               uint64_t nanoseconds)
 {
-    struct patience patience = {.nanoseconds = nanoseconds};
-    return wait_with(registration, phase, value, &patience);
+    return wait_with(registration, phase, value, within(nanoseconds));
 }
 
 int32_t phase_shared_wait(phase_registration *registration, uint64_t *phase, int64_t *value)
@@ -674,8 +762,16 @@ int32_t phase_shared_try_wait_block(phase_registration *registration, int64_t *v
         phase = &unread;
     if (count == NULL)
         count = &uncounted;
-    int32_t status = phase_member_wait_block(&registration->member, values, values_len, phase,
-                                             count);
+    int32_t status = end_ask(registration);
+    if (status != PHASE_OK)
+        return status;
+    if (registration->asks == HAS_ANSWER && values_len > 0 && values_len <= registration->bound) {
+        status = get_answer(registration, phase, values);
+        if (status == PHASE_OK)
+            *count = 1;
+        return status;
+    }
+    status = phase_member_wait_block(&registration->member, values, values_len, phase, count);
     if (status == PHASE_OK) {
         registration->wait_phase = *phase + *count;
         tell(registration);
@@ -683,17 +779,23 @@ int32_t phase_shared_try_wait_block(phase_registration *registration, int64_t *v
     return status;
 }
 
-int32_t phase_shared_wait_block_for(phase_registration *registration, int64_t *values,
-                                    size_t values_len, uint64_t *phase, size_t *count,
-                                    uint64_t nanoseconds)
+static int32_t wait_block_with(phase_registration *registration, int64_t *values,
+                               size_t values_len, uint64_t *phase, size_t *count,
+                               struct patience patience)
 {
-    struct patience patience = {.nanoseconds = nanoseconds};
     int32_t status;
     do {
         pause_for_phase(registration, values_len, &patience);
         status = phase_shared_try_wait_block(registration, values, values_len, phase, count);
     } while (waits_again(registration, &status, &patience));
     return status;
+}
+
+int32_t phase_shared_wait_block_for(phase_registration *registration, int64_t *values,
+                                    size_t values_len, uint64_t *phase, size_t *count,
+                                    uint64_t nanoseconds)
+{
+    return wait_block_with(registration, values, values_len, phase, count, within(nanoseconds));
 }
 
 int32_t phase_shared_wait_block(phase_registration *registration, int64_t *values,
@@ -712,10 +814,12 @@ struct asker {
     bool is_made; /* whether its signal is known to be made */
 };
 
-/* Looks for the answer. */
+/* Looks for the answer, and counts it: where it is there another's turn has made it. */
 static int32_t look(struct asker *asker)
 {
-    return phase_member_look(&asker->registration->member, asker->phase, asker->value);
+    int32_t status = phase_member_look(&asker->registration->member, asker->phase, asker->value);
+    asker->registration->answers += status == PHASE_OK;
+    return status;
 }
 
 /* Looks for it once, and so often more. */
@@ -801,26 +905,23 @@ static int32_t wait_for_answer(struct asker *asker, struct patience *patience)
     return status;
 }
 
-/* Takes back what was asked for. It waits for its turn alone. */
-static int32_t take_back(struct asker *asker)
+/* Takes back what was asked for, where the turn can be had in time, also where the phaser is
+ * closed. Else the ask stands. */
+static int32_t take_back(struct asker *asker, const struct patience *patience)
 {
-    struct patience patience = {.nanoseconds = FOR_EVER};
+    phase_registration *registration = asker->registration;
+    struct patience rest = {.nanoseconds = patience->nanoseconds, .deadline = patience->deadline,
+                            .is_timed = patience->is_timed};
     int32_t status;
-    while ((status = phase_member_take_back(&asker->registration->member, asker->phase,
-                                            asker->value)) == PHASE_E_BUSY)
-        snooze(asker->registration, &patience);
+    while ((status = phase_member_take_back(&registration->member, asker->phase, asker->value))
+           == PHASE_E_BUSY)
+        if (!snooze(registration, &rest)) {
+            registration->asks = ASKS;
+            *asker->phase = registration->signal_phase;
+            return asker->is_made ? PHASE_SIGNALLED : PHASE_ASKED;
+        }
+    go_on(registration, status, *asker->phase);
     return status;
-}
-
-/* Notes what came of a next phase, and wakes who sleeps for it. */
-static void go_on(phase_registration *registration, int32_t status, uint64_t phase)
-{
-    if (status < 0)
-        return;
-    registration->signal_phase = phase + 1;
-    if (status == PHASE_OK)
-        registration->wait_phase = phase + 1;
-    tell(registration);
 }
 
 /* How many processors there are. */
@@ -844,8 +945,16 @@ static inline bool has_whom_to_ask(const phase_registration *registration)
     return owners != 1 && owners <= processors();
 }
 
+/* Whether a next goes by an ask: one that waits, and sends one value or none, with no single. */
+static inline bool is_to_ask(const phase_registration *registration, size_t values_len,
+                             uint32_t single, const struct patience *patience)
+{
+    return single == PHASE_NO_SINGLE && values_len <= 1 && patience->nanoseconds != 0
+           && !patience->is_last && has_whom_to_ask(registration);
+}
+
 /* Goes to the next phase by an ask, where the registration can ask. Where no time is left, it asks
- * no more, and rests. */
+ * no more, or else the ask stands. */
 static int32_t next_by_ask(phase_registration *registration, const int64_t *values,
                            size_t values_len, uint64_t *phase, int64_t *value,
                            struct patience *patience)
@@ -856,9 +965,37 @@ static int32_t next_by_ask(phase_registration *registration, const int64_t *valu
     struct asker asker = {registration, phase, value, false};
     status = wait_for_answer(&asker, patience);
     if (status == PHASE_ASKED)
-        status = take_back(&asker);
+        return take_back(&asker, patience);
     go_on(registration, status, *phase);
     return status;
+}
+
+/* Signals, and then waits, as long as there is time. */
+static int32_t next_with(phase_registration *registration, const int64_t *values,
+                         size_t values_len, uint32_t single, int64_t low, int64_t high,
+                         uint64_t *phase, int64_t *value, struct patience patience)
+{
+    uint64_t unread;
+    int64_t unused;
+    if (phase == NULL)
+        phase = &unread;
+    if (value == NULL)
+        value = &unused;
+    if (registration->asks != RESTS)
+        return PHASE_E_SIGNAL_TWICE;
+    int32_t status;
+    do {
+        status = PHASE_E_CANNOT_ASK;
+        if (is_to_ask(registration, values_len, single, &patience))
+            status = next_by_ask(registration, values, values_len, phase, value, &patience);
+        if (status == PHASE_E_CANNOT_ASK)
+            status = phase_shared_try_next(registration, values, values_len, single, low, high,
+                                           phase, value);
+    } while (signals_again(registration, 1, &status, &patience));
+    if (status != PHASE_SIGNALLED || registration->mode == PHASE_SIG)
+        return status;
+    int32_t waited = wait_with(registration, phase, value, patience);
+    return waited == PHASE_OK ? PHASE_OK : PHASE_SIGNALLED;
 }
 
 /* ---- Signal and wait. */
@@ -874,6 +1011,8 @@ int32_t phase_shared_try_next(phase_registration *registration,
         phase = &unread;
     if (value == NULL)
         value = &unused;
+    if (registration->asks != RESTS)
+        return PHASE_E_SIGNAL_TWICE;
     int32_t status = phase_member_next(&registration->member, values, values_len, single, low,
                                        high, phase, value);
     go_on(registration, status, *phase);
@@ -885,26 +1024,8 @@ int32_t phase_shared_next_for(phase_registration *registration,
                               uint32_t single, int64_t low, int64_t high,
                               uint64_t *phase, int64_t *value, uint64_t nanoseconds)
 {
-    struct patience patience = {.nanoseconds = nanoseconds};
-    uint64_t unread;
-    int64_t unused;
-    if (phase == NULL)
-        phase = &unread;
-    if (value == NULL)
-        value = &unused;
-    int32_t status;
-    do {
-        status = PHASE_E_CANNOT_ASK;
-        if (single == PHASE_NO_SINGLE && values_len <= 1 && has_whom_to_ask(registration))
-            status = next_by_ask(registration, values, values_len, phase, value, &patience);
-        if (status == PHASE_E_CANNOT_ASK)
-            status = phase_shared_try_next(registration, values, values_len, single, low, high,
-                                           phase, value);
-    } while (signals_again(registration, 1, &status, &patience));
-    if (status != PHASE_SIGNALLED || registration->mode == PHASE_SIG)
-        return status;
-    int32_t waited = wait_with(registration, phase, value, &patience);
-    return waited == PHASE_OK ? PHASE_OK : PHASE_SIGNALLED;
+    return next_with(registration, values, values_len, single, low, high, phase, value,
+                     within(nanoseconds));
 }
 
 int32_t phase_shared_next(phase_registration *registration,
@@ -941,24 +1062,13 @@ int32_t phase_shared_closed(const phase_registration *registration)
     return atomic_load(&registration->gate->closed) != 0 ? PHASE_E_CLOSED : PHASE_OK;
 }
 
-/* The time of a call that ends where the phaser is closed. */
-static struct patience heeding(const phase_registration *registration, uint64_t nanoseconds)
-{
-    return (struct patience){.nanoseconds = nanoseconds, .heeds = registration->gate};
-}
-
 int32_t phase_shared_signal_or_closed(phase_registration *registration,
                                       const int64_t *values, size_t values_len,
                                       uint32_t single, int64_t low, int64_t high,
                                       uint64_t *phase, uint64_t nanoseconds)
 {
-    struct patience patience = heeding(registration, nanoseconds);
-    int32_t status;
-    do
-        status = phase_shared_try_signal(registration, values, values_len, single, low, high,
-                                         phase);
-    while (signals_again(registration, 1, &status, &patience));
-    return status;
+    return signal_with(registration, values, values_len, single, low, high, phase,
+                       heeding(registration, nanoseconds));
 }
 
 int32_t phase_shared_signal_block_or_closed(phase_registration *registration,
@@ -966,13 +1076,8 @@ int32_t phase_shared_signal_block_or_closed(phase_registration *registration,
                                             uint32_t single, int64_t low, int64_t high,
                                             uint64_t *phase, uint64_t nanoseconds)
 {
-    struct patience patience = heeding(registration, nanoseconds);
-    int32_t status;
-    do
-        status = phase_shared_try_signal_block(registration, values, values_len, single, low,
-                                               high, phase);
-    while (signals_again(registration, values_len, &status, &patience));
-    return status;
+    return signal_block_with(registration, values, values_len, single, low, high, phase,
+                             heeding(registration, nanoseconds));
 }
 
 int32_t phase_shared_next_or_closed(phase_registration *registration,
@@ -980,48 +1085,22 @@ int32_t phase_shared_next_or_closed(phase_registration *registration,
                                     uint32_t single, int64_t low, int64_t high,
                                     uint64_t *phase, int64_t *value, uint64_t nanoseconds)
 {
-    struct patience patience = heeding(registration, nanoseconds);
-    uint64_t unread;
-    int64_t unused;
-    if (phase == NULL)
-        phase = &unread;
-    if (value == NULL)
-        value = &unused;
-    int32_t status;
-    do {
-        status = PHASE_E_CANNOT_ASK;
-        /* A last try asks nobody, since that would wait. */
-        if (single == PHASE_NO_SINGLE && values_len <= 1 && !patience.is_last
-            && has_whom_to_ask(registration))
-            status = next_by_ask(registration, values, values_len, phase, value, &patience);
-        if (status == PHASE_E_CANNOT_ASK)
-            status = phase_shared_try_next(registration, values, values_len, single, low, high,
-                                           phase, value);
-    } while (signals_again(registration, 1, &status, &patience));
-    if (status != PHASE_SIGNALLED || registration->mode == PHASE_SIG)
-        return status;
-    int32_t waited = wait_with(registration, phase, value, &patience);
-    return waited == PHASE_OK ? PHASE_OK : PHASE_SIGNALLED;
+    return next_with(registration, values, values_len, single, low, high, phase, value,
+                     heeding(registration, nanoseconds));
 }
 
 int32_t phase_shared_wait_or_closed(phase_registration *registration, uint64_t *phase,
                                     int64_t *value, uint64_t nanoseconds)
 {
-    struct patience patience = heeding(registration, nanoseconds);
-    return wait_with(registration, phase, value, &patience);
+    return wait_with(registration, phase, value, heeding(registration, nanoseconds));
 }
 
 int32_t phase_shared_wait_block_or_closed(phase_registration *registration, int64_t *values,
                                           size_t values_len, uint64_t *phase, size_t *count,
                                           uint64_t nanoseconds)
 {
-    struct patience patience = heeding(registration, nanoseconds);
-    int32_t status;
-    do {
-        pause_for_phase(registration, values_len, &patience);
-        status = phase_shared_try_wait_block(registration, values, values_len, phase, count);
-    } while (waits_again(registration, &status, &patience));
-    return status;
+    return wait_block_with(registration, values, values_len, phase, count,
+                           heeding(registration, nanoseconds));
 }
 
 /* ---- Who is missing. */
@@ -1032,17 +1111,77 @@ int32_t phase_shared_try_missing(phase_registration *registration, phase_member_
     phase_member_counts unread;
     if (counts == NULL)
         counts = &unread;
-    return phase_member_missing(&registration->member, counts, places, places_len);
+    int32_t status = end_ask(registration);
+    if (status == PHASE_OK)
+        status = phase_member_missing(&registration->member, counts, places, places_len);
+    return status;
 }
 
 int32_t phase_shared_missing(phase_registration *registration, phase_member_counts *counts,
                              uint64_t *places, size_t places_len)
 {
-    struct patience patience = {.nanoseconds = FOR_EVER};
+    struct patience patience = within(FOR_EVER);
     int32_t status;
     while ((status = phase_shared_try_missing(registration, counts, places, places_len))
            == PHASE_E_BUSY)
         snooze(registration, &patience);
+    return status;
+}
+
+/* A text that is written, and how much room is left, beside the zero at its end. */
+struct text {
+    char *at;
+    size_t room;
+};
+
+static void put(struct text *text, const char *words)
+{
+    for (; *words != 0 && text->room > 0; words++, text->room--)
+        *text->at++ = *words;
+}
+
+static void put_number(struct text *text, uint64_t number)
+{
+    char digits[21];
+    int at = 20;
+    digits[at] = 0;
+    do
+        digits[--at] = (char)('0' + number % 10);
+    while ((number /= 10) != 0);
+    put(text, &digits[at]);
+}
+
+/* How many of those that are missing a text names. */
+enum { NAMED = 16 };
+
+static void put_missing(struct text *text, const phase_member_counts *counts,
+                        const uint64_t *numbers)
+{
+    uint64_t missing = counts->signallers - counts->signalled;
+    put(text, "phase ");
+    put_number(text, counts->phase);
+    put(text, " lacks the signal of ");
+    for (uint64_t at = 0; at < missing && at < NAMED; at++) {
+        put(text, at == 0 ? "" : ", ");
+        put_number(text, numbers[at]);
+    }
+    if (missing > NAMED) {
+        put(text, " and ");
+        put_number(text, missing - NAMED);
+        put(text, " more");
+    }
+}
+
+int32_t phase_shared_lacks(phase_registration *registration, char *text, size_t text_len)
+{
+    struct text written = {text, text_len - (text_len > 0)};
+    phase_member_counts counts;
+    uint64_t numbers[NAMED];
+    int32_t status = phase_shared_try_missing(registration, &counts, numbers, NAMED);
+    if (status == PHASE_OK && counts.signallers > counts.signalled)
+        put_missing(&written, &counts, numbers);
+    if (text_len > 0)
+        *written.at = 0;
     return status;
 }
 
@@ -1061,6 +1200,15 @@ int32_t phase_shared_told(phase_registration *registration, uint64_t *done, uint
     if (base == NULL)
         base = &unread[1];
     return phase_member_told(&registration->member, done, base);
+}
+
+int32_t phase_shared_answers(const phase_registration *registration, uint64_t *answers)
+{
+    if (registration->gate == NULL)
+        return PHASE_E_NO_PHASER;
+    if (answers != NULL)
+        *answers = registration->answers;
+    return PHASE_OK;
 }
 
 /* ---- Words. */

@@ -1,12 +1,15 @@
 /* What the phase_member calls answer of a registration that asks, in each of its states, and what
- * they write; and threads whose time limits pass while they ask, and who then wait, or leave, while
- * the others go on. */
+ * they write; threads whose time limits pass while they ask, and who then wait, or leave, while
+ * the others go on; and how many answers others' turns made. */
 #define _POSIX_C_SOURCE 200809L
 #include "phase_shared.h"
 #include <pthread.h>
+#include <signal.h>
 #include <stdatomic.h>
 #include <stdio.h>
 #include <stdlib.h>
+#include <time.h>
+#include <unistd.h>
 
 static _Atomic int passed, failed;
 
@@ -405,12 +408,12 @@ static int32_t hurries(struct task *task, uint64_t nanoseconds, int64_t sent, in
 {
     uint64_t phase;
     int32_t status;
-    do
+    do {
         status = phase_shared_next_for(&task->registration, &sent, 1, PHASE_NO_SINGLE, 0, 0,
                                        &phase, got, nanoseconds);
-    while (status == PHASE_E_AHEAD);
-    while (status == PHASE_SIGNALLED || status == PHASE_E_NOT_YET)
-        status = phase_shared_wait_for(&task->registration, &phase, got, nanoseconds);
+        while (status == PHASE_SIGNALLED || status == PHASE_ASKED || status == PHASE_E_NOT_YET)
+            status = phase_shared_wait_for(&task->registration, &phase, got, nanoseconds);
+    } while (status == PHASE_E_AHEAD);
     return status;
 }
 
@@ -464,6 +467,208 @@ static void leaves_in_time(void)
     IS(phase_shared_leave(&other), PHASE_OK);
 }
 
+/* ---- A turn that another has for long. */
+
+#ifndef __SANITIZE_THREAD__
+
+/* A thread that makes calls all the time, and can be stopped in the middle of one. */
+struct holder {
+    phase_registration registration;
+    pthread_t thread;
+};
+
+static _Atomic bool is_stopped, goes_on, is_over;
+
+static void nap(void)
+{
+    nanosleep(&(struct timespec){0, 100000}, NULL);
+}
+
+static void stop(int signal)
+{
+    (void)signal;
+    atomic_store(&is_stopped, true);
+    while (!atomic_load(&goes_on))
+        nap();
+    atomic_store(&is_stopped, false);
+}
+
+static void *hold(void *of)
+{
+    struct holder *holder = of;
+    while (!atomic_load(&is_over))
+        phase_shared_try_missing(&holder->registration, NULL, NULL, 0);
+    return NULL;
+}
+
+/* Stops the holder where it has the turn, which another registration is told by a try. */
+static void stops(struct holder *holder, phase_registration *other)
+{
+    int32_t status;
+    do {
+        atomic_store(&goes_on, true);
+        while (atomic_load(&is_stopped))
+            nap();
+        atomic_store(&goes_on, false);
+        IS(pthread_kill(holder->thread, SIGUSR1), 0);
+        while (!atomic_load(&is_stopped))
+            nap();
+        status = phase_shared_try_missing(other, NULL, NULL, 0);
+    } while (status == PHASE_OK);
+    IS(status, PHASE_E_BUSY);
+}
+
+/* A phaser of so many phases, and a holder that has its turn. */
+static void begins_to_hold(struct holder *holder, phase_registration *own, uint64_t phases)
+{
+    *own = (phase_registration)PHASE_REGISTRATION_INIT;
+    holder->registration = *own;
+    atomic_store(&is_over, false);
+    IS(phase_shared_new(PHASE_SUM, 2, phases, own), PHASE_OK);
+    IS(phase_shared_register(own, PHASE_SIG_WAIT, &holder->registration), PHASE_OK);
+    IS(pthread_create(&holder->thread, NULL, hold, holder), 0);
+    stops(holder, own);
+}
+
+static void holds_no_longer(struct holder *holder)
+{
+    atomic_store(&is_over, true);
+    atomic_store(&goes_on, true);
+    IS(pthread_join(holder->thread, NULL), 0);
+}
+
+static uint64_t milliseconds(void)
+{
+    struct timespec time;
+    clock_gettime(CLOCK_MONOTONIC, &time);
+    return (uint64_t)time.tv_sec * 1000 + (uint64_t)time.tv_nsec / 1000000;
+}
+
+/* A next for a millisecond comes back while another has the turn, and its ask stands; with no time
+ * it asks for nothing. */
+static void comes_back(phase_registration *own, uint64_t at, int32_t wanted, uint64_t nanoseconds)
+{
+    const int64_t sent = 4;
+    uint64_t begun = milliseconds(), phase = 77;
+    int64_t value = 77;
+    IS(phase_shared_next_for(own, &sent, 1, PHASE_NO_SINGLE, 0, 0, &phase, &value, nanoseconds),
+       wanted);
+    IS(milliseconds() - begun < 500, true);
+    IS(phase, wanted == PHASE_ASKED ? at : 77);
+    IS(value, 77);
+}
+
+/* What comes of the ask is got by the next wait, or goes with one that leaves. */
+static void in_time(void)
+{
+    phase_registration own, child = PHASE_REGISTRATION_INIT;
+    static struct holder holder;
+    const int64_t five = 5;
+    int64_t row[2] = {77, 77};
+    size_t count = 77;
+    begins_to_hold(&holder, &own, 3);
+    comes_back(&own, 0, PHASE_E_AHEAD, 0);
+    comes_back(&own, 0, PHASE_ASKED, 1000000);
+    WRITES_NONE((value = 77, phase_shared_signal(&own, &five, 1, PHASE_NO_SINGLE, 0, 0, &phase)),
+                PHASE_E_SIGNAL_TWICE);
+    WRITES_NONE(phase_shared_try_wait(&own, &phase, &value), PHASE_E_BUSY);
+    WRITES_NONE(phase_shared_wait_for(&own, &phase, &value, 1000000), PHASE_E_NOT_YET);
+    IS(phase_shared_try_leave(&own), PHASE_E_BUSY);
+    holds_no_longer(&holder);
+    /* The wait makes its signal; the other completes the phase. */
+    WRITES_NONE(phase_shared_wait_for(&own, &phase, &value, 1000000), PHASE_E_NOT_YET);
+    TELLS(phase_shared_next(&holder.registration, &five, 1, PHASE_NO_SINGLE, 0, 0, &phase, &value),
+          PHASE_OK, 0, 9);
+    TELLS(phase_shared_wait(&own, &phase, &value), PHASE_OK, 0, 9);
+    /* The other's turn makes both; a child that comes before the wait begins behind that phase. */
+    atomic_store(&is_over, false);
+    IS(pthread_create(&holder.thread, NULL, hold, &holder), 0);
+    stops(&holder, &own);
+    comes_back(&own, 1, PHASE_ASKED, 1000000);
+    holds_no_longer(&holder);
+    TELLS(phase_shared_next(&holder.registration, &five, 1, PHASE_NO_SINGLE, 0, 0, &phase, &value),
+          PHASE_OK, 1, 9);
+    IS(phase_shared_register(&own, PHASE_SIG_WAIT, &child), PHASE_OK);
+    IS(phase_shared_leave(&child), PHASE_OK);
+    IS(phase_shared_signal(&own, &five, 1, PHASE_NO_SINGLE, 0, 0, NULL), PHASE_E_SIGNAL_TWICE);
+    uint64_t phase = 77;
+    IS(phase_shared_wait_block(&own, row, 3, &phase, &count), PHASE_E_BAD_BLOCK);
+    IS(phase_shared_wait_block(&own, row, 2, &phase, &count), PHASE_OK);
+    IS(phase, 1);
+    IS(count, 1);
+    IS(row[0], 9);
+    IS(row[1], 77);
+    /* Who leaves has made its signal. */
+    atomic_store(&is_over, false);
+    IS(pthread_create(&holder.thread, NULL, hold, &holder), 0);
+    stops(&holder, &own);
+    comes_back(&own, 2, PHASE_ASKED, 1000000);
+    holds_no_longer(&holder);
+    IS(phase_shared_leave(&own), PHASE_OK);
+    TELLS(phase_shared_next(&holder.registration, &five, 1, PHASE_NO_SINGLE, 0, 0, &phase, &value),
+          PHASE_OK, 2, 9);
+    IS(phase_shared_leave(&holder.registration), PHASE_OK);
+    /* The phaser was made for one phase: the wait is answered what the signal was. */
+    begins_to_hold(&holder, &own, 1);
+    comes_back(&own, 0, PHASE_ASKED, 1000000);
+    holds_no_longer(&holder);
+    TELLS(phase_shared_next(&holder.registration, &five, 1, PHASE_NO_SINGLE, 0, 0, &phase, &value),
+          PHASE_OK, 0, 9);
+    TELLS(phase_shared_wait(&own, &phase, &value), PHASE_OK, 0, 9);
+    atomic_store(&is_over, false);
+    IS(pthread_create(&holder.thread, NULL, hold, &holder), 0);
+    stops(&holder, &own);
+    comes_back(&own, 1, PHASE_ASKED, 1000000);
+    holds_no_longer(&holder);
+    WRITES_NONE(phase_shared_wait(&own, &phase, &value), PHASE_E_SPENT);
+    WRITES_NONE(phase_shared_wait(&own, &phase, &value), PHASE_E_SIGNAL_FIRST);
+    IS(phase_shared_leave(&own), PHASE_OK);
+    IS(phase_shared_leave(&holder.registration), PHASE_OK);
+}
+
+#endif
+
+/* ---- Whose turns made the answers. */
+
+static void *go(void *of)
+{
+    struct task *task = of;
+    for (uint64_t at = 0; at < task->phases; at++) {
+        int64_t got = 77;
+        IS(phase_shared_meet(&task->registration, (int64_t)at, &got), PHASE_OK);
+        IS(got, 2 * (int64_t)at);
+    }
+    return NULL;
+}
+
+/* Two threads meet: of most phases one makes the answer, and the other asked for it. */
+static void others_answer(uint64_t phases)
+{
+    static struct task tasks[2];
+    uint64_t answers[2] = {77, 77};
+    IS(phase_shared_answers(&tasks[0].registration, &answers[0]), PHASE_E_NO_PHASER);
+    IS(phase_shared_new(PHASE_SUM, 2, phases, &tasks[0].registration), PHASE_OK);
+    IS(phase_shared_register(&tasks[0].registration, PHASE_SIG_WAIT, &tasks[1].registration),
+       PHASE_OK);
+    for (int at = 0; at < 2; at++) {
+        IS(phase_shared_answers(&tasks[at].registration, &answers[at]), PHASE_OK);
+        IS(answers[at], 0);
+        tasks[at].phases = phases;
+        IS(pthread_create(&tasks[at].thread, NULL, go, &tasks[at]), 0);
+    }
+    for (int at = 0; at < 2; at++) {
+        IS(pthread_join(tasks[at].thread, NULL), 0);
+        IS(phase_shared_answers(&tasks[at].registration, &answers[at]), PHASE_OK);
+        IS(answers[at] <= phases, true);
+        IS(phase_shared_leave(&tasks[at].registration), PHASE_OK);
+    }
+    printf("asks: others' turns made %llu and %llu answers of %llu phases\n",
+           (unsigned long long)answers[0], (unsigned long long)answers[1],
+           (unsigned long long)phases);
+    /* Where there is one processor nobody asks. */
+    IS(answers[0] + answers[1] > phases / 2, sysconf(_SC_NPROCESSORS_ONLN) > 1);
+}
+
 int main(void)
 {
     rests();
@@ -477,6 +682,14 @@ int main(void)
     leaves_in_time();
     for (int64_t threads = 2; threads <= MOST; threads += 3)
         in_a_hurry(threads, 300);
+    others_answer(10000);
+#ifndef __SANITIZE_THREAD__
+    /* The sanitizer has a signal wait until a call that it sees; and with one processor nobody
+     * asks. */
+    IS(sigaction(SIGUSR1, &(struct sigaction){.sa_handler = stop}, NULL), 0);
+    if (sysconf(_SC_NPROCESSORS_ONLN) > 1)
+        in_time();
+#endif
     printf("asks: %d of %d\n", passed, passed + failed);
     return failed != 0;
 }

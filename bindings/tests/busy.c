@@ -1,10 +1,12 @@
 /* What the calls of phase_shared.h answer while the turn stays another's: those with a time limit
- * come back at the limit, and the plain ones go on until the turn is theirs. In place of the
- * library stand calls that answer PHASE_E_BUSY as often as they are told to. */
+ * come back at the limit, and the plain ones go on until the turn is theirs; and that who asks
+ * sleeps only where its signal is made. In place of the library stand calls that answer
+ * PHASE_E_BUSY as often as they are told to. */
 #define _POSIX_C_SOURCE 200809L
 #include "phase_shared.h"
 #include <stdio.h>
 #include <time.h>
+#include <unistd.h>
 
 static int passed, failed;
 
@@ -21,8 +23,17 @@ static void is(int line, const char *name, int64_t found, int64_t wanted)
 
 /* ---- The calls in place of the library's. */
 
-/* How often signals and waits are still answered as busy, and what is answered then. */
-static uint64_t signals_busy, waits_busy;
+/* How often signals and waits are still answered as busy, and calls that take an ask back; and
+ * what that is answered then. */
+static uint64_t signals_busy, waits_busy, ends_busy;
+static int32_t outcome = PHASE_SIGNALLED;
+
+/* Whether the registration can ask, whether it does, whether the signal that it asks for is made,
+ * and whether that completes the phase; how many signals were asked for, and how often the last
+ * one's answer was looked for since its turn was tried. One that looks a thousand times and tries
+ * no turn waits for ever: then the ask is answered, and hangs. */
+static bool can_ask, asks, is_signalled, completes = true, hangs;
+static uint64_t asked, looks_since;
 
 static int32_t answered(uint64_t *busy, int32_t status)
 {
@@ -73,24 +84,51 @@ int32_t phase_member_next(phase_member *member, const int64_t *values, size_t va
 int32_t phase_member_ask(phase_member *member, const int64_t *values, size_t values_len)
 {
     (void)member, (void)values, (void)values_len;
-    return PHASE_E_CANNOT_ASK;
+    if (!can_ask)
+        return PHASE_E_CANNOT_ASK;
+    asks = true, is_signalled = false;
+    asked++, looks_since = 0;
+    return PHASE_ASKED;
 }
 
 int32_t phase_member_look(phase_member *member, uint64_t *phase, int64_t *value)
 {
-    (void)member, (void)phase, (void)value;
-    return PHASE_E_NOT_ASKED;
+    (void)member;
+    if (!asks)
+        return PHASE_E_NOT_ASKED;
+    hangs = hangs || (!is_signalled && ++looks_since > 1000);
+    if (!(is_signalled && completes) && !hangs)
+        return PHASE_ASKED;
+    asks = false;
+    *phase = 0, *value = 9;
+    return PHASE_OK;
 }
 
 int32_t phase_member_serve(phase_member *member, uint32_t looks, uint64_t *phase, int64_t *value)
 {
-    (void)looks;
-    return phase_member_look(member, phase, value);
+    (void)member, (void)looks, (void)phase, (void)value;
+    if (!asks)
+        return PHASE_E_NOT_ASKED;
+    looks_since = 0;
+    if (answered(&signals_busy, PHASE_OK) == PHASE_E_BUSY)
+        return PHASE_E_BUSY;
+    is_signalled = true;
+    return PHASE_ASKED;
 }
 
 int32_t phase_member_take_back(phase_member *member, uint64_t *phase, int64_t *value)
 {
-    return phase_member_look(member, phase, value);
+    (void)member;
+    if (!asks)
+        return PHASE_E_NOT_ASKED;
+    if (answered(&ends_busy, PHASE_OK) == PHASE_E_BUSY)
+        return PHASE_E_BUSY;
+    asks = false;
+    if (outcome >= 0)
+        *phase = 0;
+    if (outcome == PHASE_OK)
+        *value = 8;
+    return outcome;
 }
 
 int32_t phase_member_signal_block(phase_member *member, const int64_t *values, size_t values_len,
@@ -137,7 +175,7 @@ int32_t phase_member_view(phase_member *member, phase_member_standing *standing)
 int32_t phase_member_told(phase_member *member, uint64_t *done, uint64_t *base)
 {
     (void)member;
-    *done = UINT64_MAX, *base = UINT64_MAX;
+    *done = asks ? 0 : UINT64_MAX, *base = UINT64_MAX;
     return PHASE_OK;
 }
 
@@ -161,6 +199,106 @@ static uint64_t now(void)
         uint64_t took = now() - begun;                                                             \
         IS(took >= limit && took < 1000 * MILLISECOND, true);                                      \
     } while (0)
+
+/* What a registration is answered whose ask stands, since it has no turn: here for ever. */
+static void stands(phase_registration *it)
+{
+    phase_registration child = PHASE_REGISTRATION_INIT;
+    const uint32_t none = PHASE_NO_SINGLE;
+    const int64_t value = 5;
+    phase_member_counts counts;
+    uint64_t phase = 77;
+    int64_t got = 77;
+    size_t count = 77;
+    IS(phase_shared_signal(it, &value, 1, none, 0, 0, &phase), PHASE_E_SIGNAL_TWICE);
+    IS(phase_shared_signal_block(it, &value, 1, none, 0, 0, &phase), PHASE_E_SIGNAL_TWICE);
+    IS(phase_shared_next(it, &value, 1, none, 0, 0, &phase, &got), PHASE_E_SIGNAL_TWICE);
+    IS(phase_shared_try_next(it, &value, 1, none, 0, 0, &phase, &got), PHASE_E_SIGNAL_TWICE);
+    IS(phase_shared_try_wait(it, &phase, &got), PHASE_E_BUSY);
+    IS(phase_shared_wait_for(it, &phase, &got, MILLISECOND), PHASE_E_NOT_YET);
+    IS(phase_shared_try_wait_block(it, &got, 1, &phase, &count), PHASE_E_BUSY);
+    IS(phase_shared_try_missing(it, &counts, NULL, 0), PHASE_E_BUSY);
+    IS(phase_shared_try_register(it, PHASE_SIG, &child), PHASE_E_BUSY);
+    IS(phase_shared_try_register_now(it, &child, &phase), PHASE_E_BUSY);
+    IS(phase_shared_try_leave(it), PHASE_E_BUSY);
+    IS(phase, 77);
+    IS(got, 77);
+    IS(count, 77);
+    IS(child.member.live, false);
+}
+
+/* A next for two milliseconds whose ask cannot be taken back, by a registration with another, whose
+ * last signal was that of phase 0. */
+static void asks_in_vain(phase_registration *it, int32_t wanted)
+{
+    const uint64_t limit = 2 * MILLISECOND, waits = 0, signals = signals_busy;
+    const int64_t value = 5;
+    uint64_t phase = 77;
+    int64_t got = 77;
+    ends_busy = UINT64_MAX;
+    ENDS(phase_shared_next_for(it, &value, 1, PHASE_NO_SINGLE, 0, 0, &phase, &got, limit), wanted);
+    IS(phase, 1);
+    IS(got, 77);
+}
+
+/* The ask of one whose time is over, and what comes of it. */
+static void takes_no_longer(phase_registration *it)
+{
+    phase_registration other = PHASE_REGISTRATION_INIT, child = PHASE_REGISTRATION_INIT;
+    const uint64_t for_ever = UINT64_MAX, before = asked;
+    const uint32_t none = PHASE_NO_SINGLE;
+    const int64_t value = 5;
+    uint64_t phase = 77;
+    int64_t got[2] = {77, 77};
+    size_t count = 77;
+    IS(phase_shared_register(it, PHASE_SIG_WAIT, &other), PHASE_OK);
+    can_ask = true;
+    /* With no time it asks for nothing. */
+    signals_busy = for_ever;
+    IS(phase_shared_next_for(it, &value, 1, none, 0, 0, &phase, got, 0), PHASE_E_AHEAD);
+    IS(asked, before);
+    /* Nobody had a turn: then its signal is made, and the phase is waited for. */
+    asks_in_vain(it, PHASE_ASKED);
+    stands(it);
+    ends_busy = 3, signals_busy = 0, outcome = PHASE_SIGNALLED;
+    IS(phase_shared_wait(it, &phase, got), PHASE_OK);
+    IS(got[0], 9);
+    /* The phase is complete. What came of it is kept for a wait, whatever was called before. */
+    signals_busy = for_ever;
+    asks_in_vain(it, PHASE_ASKED);
+    ends_busy = 300, signals_busy = 0, outcome = PHASE_OK;
+    IS(phase_shared_register(it, PHASE_SIG, &child), PHASE_OK);
+    IS(ends_busy, 0);
+    IS(phase_shared_signal(it, &value, 1, none, 0, 0, &phase), PHASE_E_SIGNAL_TWICE);
+    IS(phase_shared_wait_block(it, got, 2, &phase, &count), PHASE_OK);
+    IS(phase, 0);
+    IS(got[0], 8);
+    IS(got[1], 77);
+    IS(count, 1);
+    IS(phase_shared_signal(it, &value, 1, none, 0, 0, &phase), PHASE_OK);
+    /* Its signal is refused. */
+    signals_busy = for_ever;
+    asks_in_vain(it, PHASE_ASKED);
+    ends_busy = 0, signals_busy = 0, outcome = PHASE_E_SPENT;
+    IS(phase_shared_wait(it, &phase, got), PHASE_E_SPENT);
+    IS(phase_shared_signal(it, &value, 1, none, 0, 0, &phase), PHASE_OK);
+    /* Its signal was made in time, and the turn is another's from then on. */
+    completes = false;
+    asks_in_vain(it, PHASE_SIGNALLED);
+    stands(it);
+    ends_busy = 0, outcome = PHASE_OK, completes = true;
+    IS(phase_shared_wait_for(it, &phase, got, MILLISECOND), PHASE_OK);
+    IS(got[0], 8);
+    /* Who leaves ends it first, and who comes then asks for nothing. */
+    signals_busy = for_ever;
+    asks_in_vain(&other, PHASE_ASKED);
+    ends_busy = 300, signals_busy = 0;
+    IS(phase_shared_leave(&other), PHASE_OK);
+    IS(ends_busy, 0);
+    IS(asks, false);
+    IS(phase_shared_leave(&child), PHASE_OK);
+    can_ask = false;
+}
 
 int main(void)
 {
@@ -191,6 +329,22 @@ int main(void)
     IS(phase_shared_next(&it, &value, 1, none, 0, 0, &phase, &got), PHASE_OK);
     IS(got, 9);
     IS(signals_busy + waits_busy, 0);
+    /* Who asks and has had no turn tries to get one, and does not sleep. */
+    phase_registration other = PHASE_REGISTRATION_INIT;
+    IS(phase_shared_register(&it, PHASE_SIG_WAIT, &other), PHASE_OK);
+    can_ask = true;
+    signals_busy = 200;
+    got = 0;
+    IS(phase_shared_next(&it, &value, 1, none, 0, 0, &phase, &got), PHASE_OK);
+    IS(hangs, false);
+    IS(got, 9);
+    IS(signals_busy, 0);
+    IS(asked, sysconf(_SC_NPROCESSORS_ONLN) > 1);
+    can_ask = false;
+    IS(phase_shared_leave(&other), PHASE_OK);
+    /* What comes next hangs where that was not so. */
+    if (failed == 0 && sysconf(_SC_NPROCESSORS_ONLN) > 1)
+        takes_no_longer(&it);
     /* Where the phaser is closed a call goes on until it has had its turn. */
     IS(phase_shared_close(&it), PHASE_OK);
     signals_busy = waits_busy = 300;

@@ -112,9 +112,15 @@ static int32_t goes_next(struct task *task, uint64_t nanoseconds)
     uint64_t phase = 0;
     int64_t value = 0;
     int32_t status;
-    while ((status = phase_shared_next_for(&task->registration, &one, 1, PHASE_NO_SINGLE, 0, 0,
-                                           &phase, &value, nanoseconds)) == PHASE_E_AHEAD)
-        rest();
+    do {
+        status = phase_shared_next_for(&task->registration, &one, 1, PHASE_NO_SINGLE, 0, 0,
+                                       &phase, &value, nanoseconds);
+        /* What came of an ask that stands is got by a wait, which may say that it was ahead. */
+        if (status == PHASE_ASKED)
+            status = phase_shared_wait(&task->registration, &phase, &value);
+        if (status == PHASE_E_AHEAD)
+            rest();
+    } while (status == PHASE_E_AHEAD);
     if (status < 0)
         return status;
     note_sent(phase);

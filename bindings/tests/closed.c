@@ -195,6 +195,47 @@ static void one_never_signals(void)
     leaves(&waiter);
 }
 
+/* ---- Who is missing, in words. */
+
+static void are_words(phase_registration *it, size_t room, int32_t status, const char *wanted)
+{
+    char text[PHASE_LACKS_MAX + 1];
+    memset(text, 'x', sizeof text);
+    IS(phase_shared_lacks(it, text, room), status);
+    IS(strcmp(text, wanted), 0);
+    IS(text[room], 'x');
+}
+
+static void in_words(void)
+{
+    struct task tasks[20];
+    phase_registration founder = founder_of(tasks, 20, PHASE_SIG_WAIT);
+    phase_registration none = PHASE_REGISTRATION_INIT;
+    leaves(&founder);
+    phase_registration *first = &tasks[0].registration;
+    are_words(first, PHASE_LACKS_MAX, PHASE_OK,
+              "phase 0 lacks the signal of 1, 2, 3, 4, 5, 6, 7, 8, 9, 10, 11, 12, 13, 14, 15, 16 "
+              "and 4 more");
+    for (int at = 0; at < 18; at++)
+        IS(signals(&tasks[at].registration), PHASE_OK);
+    are_words(first, PHASE_LACKS_MAX, PHASE_OK, "phase 0 lacks the signal of 19, 20");
+    are_words(first, 35, PHASE_OK, "phase 0 lacks the signal of 19, 20");
+    are_words(first, 34, PHASE_OK, "phase 0 lacks the signal of 19, 2");
+    are_words(first, 1, PHASE_OK, "");
+    IS(phase_shared_lacks(first, NULL, 0), PHASE_OK);
+    are_words(&none, 9, PHASE_E_NO_PHASER, "");
+    for (int at = 1; at < 20; at++)
+        leaves(&tasks[at].registration);
+    /* Number 1 alone is left, and has signalled phase 0: that is complete. */
+    are_words(first, PHASE_LACKS_MAX, PHASE_OK, "phase 1 lacks the signal of 1");
+    leaves(first);
+    /* Where nobody signals nobody is missing. */
+    founder = founder_of(tasks, 1, PHASE_WAIT);
+    leaves(&founder);
+    are_words(first, PHASE_LACKS_MAX, PHASE_OK, "");
+    leaves(first);
+}
+
 /* The first places have the first that are missing, as many as there are of both. */
 static void places_are_few(void)
 {
@@ -588,6 +629,7 @@ int main(void)
 {
     one_never_signals();
     places_are_few();
+    in_words();
     wakes_all();
     others_go_on();
     complete_phases_are_got();

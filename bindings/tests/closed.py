@@ -239,6 +239,40 @@ def interrupted():
     silent.leave()
 
 
+def causes():
+    """What closed the phaser is the cause that the others are told, whoever raises behind it."""
+    with sums() as founder:
+        owned = [founder.register(phase.SIG_WAIT) for _ in range(4)]
+    why, told = ValueError("a part that is bad"), []
+
+    def raises(own, error):
+        with own.closing():
+            raise error
+
+    def works(own):
+        with own.closing():
+            try:
+                own.next(1)
+            except phase.BrokenPhaserError as broken:
+                told.append(broken)
+                raise
+
+    threads = started(lambda own=own: told.append(raised(works, own)) for own in owned[:2])
+    time.sleep(0.01)
+    look("it raises what it raised", raised(raises, owned[2], why) is why)
+    over(threads)
+    look("two are told twice", [type(it) for it in told] == [phase.BrokenPhaserError] * 4)
+    look("each what the cause was", all(it.__cause__ is why for it in told))
+    late = OSError("another that comes late")
+    look("one that comes late", raised(raises, owned[3], late) is late)
+    with sums() as founder:
+        own = founder.register(phase.SIG_WAIT)
+        founder.close()
+        with own.closing():
+            broken = raised(own.next, 1)
+    look("a close has no cause", type(broken) is phase.BrokenPhaserError and not broken.__cause__)
+
+
 def errors():
     why = phase.BrokenPhaserError(7, "phase 7 lacks the signal of 2")
     look("it is a RuntimeError", isinstance(why, RuntimeError))
@@ -256,5 +290,6 @@ a_pool_ends()
 another_thread_closes()
 nothing_is_lost()
 interrupted()
+causes()
 errors()
 sys.exit(failed > 0)

@@ -49,6 +49,24 @@ static void meets()
         has(sum == 4 * 4950 + 600, "what all sent");
 }
 
+static void others_answer()
+{
+    auto founder = phase::registration::founder(PHASE_SUM, 2, 2000);
+    auto child = founder.add(PHASE_SIG_WAIT);
+    has(founder.answers() == 0 && child.answers() == 0, "nobody has asked");
+    const auto meets = [](phase::registration &own) {
+        for (int64_t at = 0; at < 2000; at++)
+            own.next(at);
+    };
+    std::thread other([&] { meets(child); });
+    meets(founder);
+    other.join();
+    const bool asks = std::thread::hardware_concurrency() > 1;
+    has((founder.answers() + child.answers() > 1000) == asks, "others' turns made most phases");
+    founder.leave();
+    has(founder.answers() == 0, "one that has left has no answers");
+}
+
 static void leaves()
 {
     auto founder = phase::registration::founder(PHASE_GREATEST, 2, 100);
@@ -132,9 +150,11 @@ static void who_is_missing()
     has(counts.tasks == 3 && counts.signallers == 2 && counts.waiters == 3, "who is registered");
     has(counts.phase == 0 && counts.signalled == 1, "who has signalled");
     has(waiter.missing() == std::vector<uint64_t>{1}, "who is missing");
+    has(waiter.lacks() == "phase 0 lacks the signal of 1", "in words");
     has(first.signal(4).phase == 0 && waiter.wait_or_closed().value == 9, "and then nobody is");
     has(waiter.missing() == std::vector<uint64_t>({1, 2}), "but for the next phase");
-    has(founder.standing().tasks == 0 && founder.missing().empty(), "of none");
+    has(founder.standing().tasks == 0 && founder.missing().empty() && founder.lacks().empty(),
+        "of none");
 }
 
 /* A thread that throws in step 3, and three that end with it. */
@@ -219,6 +239,7 @@ static void one_thread()
 int main()
 {
     meets();
+    others_answer();
     leaves();
     sends_one();
     is_replaced();

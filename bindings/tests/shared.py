@@ -1,6 +1,7 @@
 """What phasers between threads of phase.py answer: barriers, streams and blocks beside values
-worked out alone; time limits; Ctrl-C in the middle of a wait; each refusal, which leaves all
-as it was; registrations that are let go of; and a second thread on one registration."""
+worked out alone; time limits, also where an ask stands then; Ctrl-C in the middle of a wait; each
+refusal, which leaves all as it was; registrations that are let go of; and a second thread on one
+registration."""
 import copy
 import gc
 import os
@@ -9,10 +10,12 @@ import signal
 import sys
 import threading
 import time
+import unittest.mock
 
 import numpy
 
 import phase
+from phase import shared
 
 MOST = 2**63 - 1
 
@@ -179,7 +182,42 @@ def asked():
         founder.leave()
         look("a child's time", refused(phase.Signalled, child.next, 6, None, 0.001))
         look("the next phase", other.next(5, timeout=10) == (1, 11))
+        look("whose turns made it", 0 <= other.answers <= 2 and child.answers <= 1)
         other.leave()
+        look("of none", refused(phase.NoPhaser, lambda: other.answers))
+
+
+def answered(name, answers):
+    """In place of the calls of C of this name, one that is answered so, one after another."""
+    call = lambda *_: answers.pop(0)
+    return unittest.mock.patch.object(
+        shared, name, (call, call, call, getattr(shared, name)[3])
+    )
+
+
+def asked_and_no_turn():
+    """A next that has asked others, and did not get its turn in time: what the wait behind it is
+    told is its answer, and where its signal was ahead it is made anew."""
+    why = None
+    for first, then, is_made in (
+        (phase.SIGNALLED, phase.E_NOT_YET, True), (phase.ASKED, phase.E_NOT_YET, False),
+    ):
+        with sums() as own, answered("_NEXT", [first]), answered("_WAIT", [then]):
+            try:
+                own.next(1, timeout=0)
+            except phase.Signalled as told:
+                why = told
+            look("whether its signal was made", why.phase == 0 and why.made == is_made)
+            look("what it says", ("asked for" in str(why)) == (not is_made))
+    with sums() as own, answered("_NEXT", [phase.ASKED]), answered("_WAIT", [phase.E_SPENT]):
+        look("a refused signal", refused(phase.Spent, own.next, 1))
+    nexts, waits = [phase.ASKED, phase.OK], [phase.E_AHEAD]
+    with sums() as own, answered("_NEXT", nexts), answered("_WAIT", waits):
+        look("one that is made anew", own.next(1) == (0, 0) and nexts == waits == [])
+    nexts, waits = [phase.ASKED, phase.E_AHEAD, phase.E_AHEAD], [phase.E_AHEAD]
+    with sums() as own, answered("_NEXT", nexts), answered("_WAIT", waits):
+        look("one that is ahead to the end", refused(TimeoutError, own.next, 1, None, 0))
+        look("by all its tries", nexts == waits == [])
 
 
 def leaves_in_time():
@@ -274,8 +312,8 @@ def interrupted():
 
 def main():
     for test in (
-        made, meetings, streams, blocks, times, asked, leaves_in_time, refusals, let_go,
-        one_thread_at_a_time, interrupted,
+        made, meetings, streams, blocks, times, asked, asked_and_no_turn, leaves_in_time, refusals,
+        let_go, one_thread_at_a_time, interrupted,
     ):
         test()
     print(f"shared.py: {failed} failed")

@@ -4,7 +4,7 @@ use phase::{Operation, PhaserError};
 use std::thread;
 
 fn meets(mut own: Registration<SigWait>) -> Result<Next, PhaserError> {
-    own.next_or_closed(&[1], None)
+    Ok(own.next_or_closed(&[1], None, None)?)
 }
 
 fn main() -> Result<(), PhaserError> {

@@ -7,7 +7,8 @@ fn works(mut stop: Registration<Wait>, mut begun: Registration<Sig>) -> Result<(
     // Behind its first piece of work it signals that it has begun.
     begun.signal(&[1], None)?;
     // It waits, for a millisecond at most, for what will never come but the end.
-    while stop.wait_for(Duration::from_millis(1)) == Err(PhaserError::NotYet) {}
+    let soon = Duration::from_millis(1);
+    while stop.wait_for(soon).is_err_and(|it| it.why == PhaserError::NotYet) {}
     Ok(())
 }
 

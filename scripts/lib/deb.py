@@ -18,7 +18,6 @@ Architecture: amd64
 Maintainer: {maintainer}
 Installed-Size: {size}
 Depends: libc6 (>= {glibc})
-Suggests: python3-numpy
 Section: math
 Priority: optional
 Description: phasers, and graphs of whole-number filters over phasers

@@ -1,7 +1,7 @@
 """The runs of scripts/check/program-cases: those of scripts/check/cases, and those that are made of
 tables here and of rules."""
 import project
-from stored_runs import Has, OneOf, Run, helps, marks, stored_runs, tables
+from stored_runs import Has, Like, OneOf, Run, helps, marks, stored_runs, tables
 from value_runs import MOST, banks, doubled_lists, joiners, long_filters, long_lists, long_texts, numbers, ways_of_values
 
 # ---- checks, evaluations and drawings of graphs
@@ -272,6 +272,14 @@ WORDS = [
 
 ROUND = "make sum 2 100\nsend 0 5\nsignal 0\nwait 0\n"
 ROUND_REPLIES = "ok\nok\nok 0\nvalue 0 5\n"
+
+# Tasks of which each makes other steps, of five samples: A has 3, 4 and 5, B has 1 and 1, and D has 3
+# and 5.
+APART = (
+    "graph 3\nphaser X sum 4\nphaser A sum 4\nphaser B sum 4\nphaser D sum 4\n"
+    "source s s.csv -> X\nsplit p X -> A B\ndecimate d A -> D every 2\nsink a D\nsink b B until 1\n"
+)
+STEPS = [("s", 5), ("p", 5), ("d", 3), ("a", 2), ("b", 1)]
 
 # Words that are asked of a script in the file s or on standard input, with all that comes of them.
 STRICTLY = ["replay s --strict", "replay --strict s", "replay --strict", "replay - --strict"]
@@ -583,10 +591,10 @@ def all_runs():
     for name, words, files, script in ON_INPUT:
         yield Run(name, words, files, script, 0, "out 3\n-1\n-1\n-1\n", "")
     yield Run("a list of several pieces", "eval g", {"g": piped, "s.csv": pieces}, None, 0, "out 9000\n" + pieces, "")
-    values, did = "out 3\n-1\n-1\n-1\n", Has(["  s: 3 steps, ", "  f: 3 steps, ", "  out: 3 steps, ", " turns", " % of the time\n"])
+    did = "".join(rf"  {task}: {steps} steps, [1-9]\d* turns.* % of the time\n" for task, steps in STEPS)
     for workers in 1, 2, 16:
-        words = f"run g --counts --workers {workers}"
-        yield Run("what each task did", words, {"g": FIR, "s.csv": "-1\n-1\n0\n"}, None, 0, values, did)
+        words, files = f"run g --counts --workers {workers}", {"g": APART, "s.csv": "3\n1\n4\n1\n5\n"}
+        yield Run("what each task did", words, files, None, 0, "a 2\n3\n5\nb 1\n1\n", Like(did))
     files = {"g": FIR.replace("shift 2", "shift 0"), "s.csv": f"{2**62}\n{2**62}\n"}
     yield Run("no counts behind a fault", "run g --counts", files, None, 3, "", "phase: too big at f 1\n")
     many = "1\n" * 2100000

@@ -11,6 +11,7 @@ TOP = project.TOP
 # What is believed of the repository, and goes into the program, the libraries or what is around
 # them.
 BELIEVED = ("HANDLES", "bindings/c", "bindings/python", "bindings/rust", "scripts/bind",
+            "scripts/lib/archive.py", "scripts/lib/deb.py", "scripts/lib/licences.py",
             "scripts/lib/static-library")
 # What of the kit goes into a proof or into a program, beside its crates.
 OF_KIT = ("KIT-ID", "bin", "c", "logic_built", "rattle", "toolchain")
@@ -34,7 +35,10 @@ What is believed, and not proved: the toolchain (the prover's kernel, its compil
 of the C library and of its own crates), the compiler and linker named above, the C library and the
 system. Of libphase: how calls wait (bindings/c/phase_wait.c), and what the headers, the crates and
 the files of Python do around the proved calls; these are tested. Behind the crates stands each file
-of the repository that is believed, with its SHA-256.
+of the repository that is believed, with its SHA-256, and each that makes an archive.
+
+phase.spdx.json lists the crates of the kit that the program and the libraries contain. The kit's
+own come with no licence, and are NOASSERTION there.
 
 To prove it again: in a clone of that commit, with that kit, that compiler and that linker,
 `scripts/release FOLDER` makes an archive and a wheel, whose sums can be compared with those of

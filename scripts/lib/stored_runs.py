@@ -11,12 +11,14 @@ CASES = os.path.join(project.TOP, "scripts", "check", "cases")
 
 # A run: its words and files, a script or None, what it ends with, which of its streams fail, and
 # how many bytes of the script a read gets, where it does not get all. What is wanted of a stream is
-# a text, some that stand in it, as `Has`, or any of some, as `OneOf`.
+# a text, some that stand in it, as `Has`, any of some, as `OneOf`, or the form of all of it, a
+# regular expression, as `Like`.
 Run = collections.namedtuple(
     "Run", "name words files script status output faults fails size", defaults=[(), None]
 )
 Has = collections.namedtuple("Has", "texts")
 OneOf = collections.namedtuple("OneOf", "texts")
+Like = collections.namedtuple("Like", "form")
 
 
 def tables(name):

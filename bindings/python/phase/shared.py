@@ -37,7 +37,8 @@ import numpy
 from numpy.typing import ArrayLike, NDArray
 
 import phase
-from phase import E_CLOSED, ENDED, MEMBERS_MAX, OK, SIG, SIGNALLED
+from phase import ASKED, E_AHEAD, E_BUSY, E_CLOSED, E_NOT_YET, ENDED, MEMBERS_MAX, OK, SIG
+from phase import SIGNALLED
 from phase import BadMode, Clamp, Got, GotBlock, Mode, NoPhaser, NoWait, PhaserError, Standing
 
 __all__ = ["SharedPhaser", "Registration", "PhaserCounts", "Signalled", "BrokenPhaserError"]
@@ -48,35 +49,37 @@ _SLICE = 10_000_000
 # More nanoseconds than any wait takes.
 _LONGEST = 2**62
 
-# What a call is answered whose time is over, and what is tried again.
-_EARLY = frozenset((phase.E_AHEAD, phase.E_NOT_YET))
-_AGAIN = _EARLY | {phase.E_BUSY}
+# What a call is answered whose time is over.
+_EARLY = frozenset((E_AHEAD, E_NOT_YET))
 
 # The single of a signal that names none.
 _NO_SINGLE = (int(phase.NO_SINGLE), 0, 0)
 
 _NO_VALUE = phase._NO_VALUE
 
-# How many of those that are missing a text names.
-_NAMED = 16
+# How many bytes the text has that names who is missing, at most.
+_LACKS_MAX = 512
 
 
 class Signalled(TimeoutError):
     """The time of a `next` ran out behind its signal: `wait` gets the phase, which is `phase`. The
-    text names who is missing."""
+    text names who is missing. Where `made` is False others were asked to signal it, and the turn
+    was not had since to see whether they did: `wait` is told what came of it, and raises what
+    `signal` does, or a TimeoutError where that would have to wait, where nothing was sent."""
 
-    def __init__(self, phase: int, missing: str = ""):
-        super().__init__(phase, missing)
-        self.phase = phase
+    def __init__(self, phase: int, missing: str = "", made: bool = True):
+        super().__init__(phase, missing, made)
+        self.phase, self.made = phase, made
 
     def __str__(self) -> str:
-        return _and(f"phase {self.phase} is signalled, and was not complete in time", self.args[1])
+        how = "signalled" if self.made else "asked for"
+        return _and(f"phase {self.phase} is {how}, and was not complete in time", self.args[1])
 
 
 class BrokenPhaserError(PhaserError, RuntimeError):
     """The phaser is closed. It comes to the calls of a registration in its `with own.closing():`
     alone. `phase` is the phase that a `next` has signalled by then, or None. The text names who
-    was missing."""
+    was missing. Where the body of such a `with` raised what closed it, that is the `__cause__`."""
 
     status = E_CLOSED
 
@@ -110,7 +113,11 @@ class _Place(ctypes.Structure):
         ("mode", ctypes.c_uint32),
         ("soon", ctypes.c_uint32),
         ("crowded", ctypes.c_uint64),
-        ("apart", ctypes.c_uint64 * 8),
+        ("answers", ctypes.c_uint64),
+        ("asks", ctypes.c_uint32),
+        ("outcome", ctypes.c_int32),
+        ("kept", ctypes.c_int64),
+        ("apart", ctypes.c_uint64 * 5),
     ]
 
 
@@ -161,7 +168,8 @@ def _load_all():
     quick = {
         "close": place,
         "closed": place,
-        "try_missing": others["missing"],
+        "answers": place + number,
+        "lacks": place + [ctypes.c_char_p, ctypes.c_size_t],
     }
     timed = {
         f"{name}_{form}": arguments + [whole]
@@ -175,15 +183,17 @@ def _load_all():
 _lib, _quick = _load_all()
 
 
-def _forms(name):
+def _forms(name, early):
     """A call as it is tried once, as it goes on for some time, and as it does so until the phaser
-    is closed."""
+    is closed; and what it is answered that came too early."""
     once = getattr(_quick, f"phase_shared_try_{name}")
-    return once, *(getattr(_lib, f"phase_shared_{name}_{form}") for form in ("for", "or_closed"))
+    timed = (getattr(_lib, f"phase_shared_{name}_{form}") for form in ("for", "or_closed"))
+    return once, *timed, early
 
 
-_SIGNAL, _SIGNAL_BLOCK, _NEXT = _forms("signal"), _forms("signal_block"), _forms("next")
-_WAIT, _WAIT_BLOCK = _forms("wait"), _forms("wait_block")
+_SIGNAL, _SIGNAL_BLOCK = _forms("signal", E_AHEAD), _forms("signal_block", E_AHEAD)
+_NEXT = _forms("next", E_AHEAD)
+_WAIT, _WAIT_BLOCK = _forms("wait", E_NOT_YET), _forms("wait_block", E_NOT_YET)
 
 
 class _Turn:
@@ -201,6 +211,15 @@ class _Turn:
 
     def __exit__(self, *_: object) -> None:
         self._release()
+
+
+class _Closing:
+    """What the registrations of a phaser share: what closed it, where that was an exception."""
+
+    __slots__ = ("cause",)
+
+    def __init__(self) -> None:
+        self.cause: Optional[BaseException] = None
 
 
 class Registration:
@@ -221,9 +240,10 @@ class Registration:
     def __init__(self) -> None:
         raise TypeError("a registration is made by SharedPhaser, or by another one's register")
 
-    def _take(self, place: _Place) -> None:
-        """Has a place whose registration was made."""
+    def _take(self, place: _Place, closing: _Closing) -> None:
+        """Has a place whose registration was made, and what it shares with its phaser's others."""
         self._place, self._turn, self.mode = place, _Turn(), Mode(place.mode)
+        self._closing = closing
         # Whether its calls heed a close, and what keeps it from leaving in the middle of one.
         self._heeds, self._gate = False, threading.Lock()
         # Where C reads one send, and writes a phase and a value.
@@ -242,7 +262,7 @@ class Registration:
         place, mode = _Place(), phase._word(mode, phase.Mode, 32, BadMode)
         with self._turn:
             phase._done(_lib.phase_shared_register(self._at, mode, place))
-        return _of(place)
+        return _of(place, self._closing)
 
     def register_now(self) -> tuple[Registration, int]:
         """Registers a child in the mode WAIT at the first phase that is not complete, and returns
@@ -250,7 +270,7 @@ class Registration:
         place, at = _Place(), ctypes.c_uint64()
         with self._turn:
             phase._done(_lib.phase_shared_register_now(self._at, place, at))
-        return _of(place), at.value
+        return _of(place, self._closing), at.value
 
     def signal(
         self,
@@ -303,13 +323,8 @@ class Registration:
             self._ends()
             lent, row = self._sends(values)
             got = self._phase_at, self._value_at
-            status = self._tries(_NEXT, (*row, *_single(single), *got), until)
-            signalled = None
-            if status == SIGNALLED:
-                signalled = self._phase.value
-                status = self._goes_on(_WAIT, got, until)
-                if status in _EARLY:
-                    raise Signalled(signalled, self._lacks())
+            words = *row, *_single(single), *got
+            status, signalled = self._goes_next(words, got, until)
             self._done(status, signalled)
             return self._got()
 
@@ -381,6 +396,15 @@ class Registration:
             phase._done(_lib.phase_shared_told(self._at, done, base))
         return done.value, base.value
 
+    @property
+    def answers(self) -> int:
+        """How many phases of `next` others' turns made for it: it asked for them, and took no turn
+        for the answer. It raises NoPhaser."""
+        count = ctypes.c_uint64()
+        with self._turn:
+            phase._done(_quick.phase_shared_answers(self._at, count))
+        return count.value
+
     def standing(self) -> PhaserCounts:
         """How many registrations there are, and how far the first phase that is not complete has
         come. It waits for its turn alone. It raises NoPhaser.
@@ -443,8 +467,10 @@ class Registration:
         with self:
             try:
                 yield self
-            except BaseException:
+            except BaseException as why:
                 with contextlib.suppress(NoPhaser):
+                    if not self.closed:
+                        self._closing.cause = why
                     self.close()
                 raise
 
@@ -484,15 +510,29 @@ class Registration:
         """What a call is answered in the end: once, and then slice by slice, so that the signals of
         the system are seen between."""
         status = calls[0](self._at, *words)
-        return self._goes_on(calls, words, until) if status in _AGAIN else status
+        return self._goes_on(calls, words, until) if status in (calls[3], E_BUSY) else status
 
     def _goes_on(self, calls, words, until):
         call = calls[2 if self._heeds else 1]
         while True:
             left = _SLICE if until is None else min(_SLICE, max(0, until - time.monotonic_ns()))
             status = call(self._at, *words, left)
-            if status not in _EARLY or until is not None and time.monotonic_ns() >= until:
+            if status != calls[3] or until is not None and time.monotonic_ns() >= until:
                 return status
+
+    def _goes_next(self, words, got, until):
+        """What a next is answered in the end, and the phase that it has signalled by then."""
+        while True:
+            status = self._tries(_NEXT, words, until)
+            if status not in (SIGNALLED, ASKED):
+                return status, None
+            signalled, made = self._phase.value, status == SIGNALLED
+            status = self._goes_on(_WAIT, got, until)
+            if status == E_NOT_YET:
+                raise Signalled(signalled, self._lacks(), made)
+            # One that had asked, and whose signal was ahead, has signalled nothing.
+            if status != E_AHEAD:
+                return status, signalled
 
     def _sends(self, values):
         """What has the sends, and where C finds them and how many they are."""
@@ -505,7 +545,7 @@ class Registration:
     def _ends(self):
         """Refuses a signal of one that ends with the others, where the phaser is closed."""
         if self._heeds and _quick.phase_shared_closed(self._at) == E_CLOSED:
-            raise BrokenPhaserError(None, self._lacks())
+            raise BrokenPhaserError(None, self._lacks()) from self._closing.cause
 
     def _done(self, status, signalled=None):
         if status == OK:
@@ -513,19 +553,14 @@ class Registration:
         if status in _EARLY:
             raise TimeoutError(_and(str(phase._REFUSALS[status]()).rstrip("."), self._lacks()))
         if status == E_CLOSED:
-            raise BrokenPhaserError(signalled, self._lacks())
+            raise BrokenPhaserError(signalled, self._lacks()) from self._closing.cause
         phase._done(status)
 
     def _lacks(self):
         """Who is missing, for a text: nothing where another call is in the middle."""
-        counts, places = _Counts(), (ctypes.c_uint64 * _NAMED)()
-        status = _quick.phase_shared_try_missing(self._at, counts, places, _NAMED)
-        missing = counts.signallers - counts.signalled
-        if status != OK or missing == 0:
-            return ""
-        names = ", ".join(str(number) for number in places[:missing])
-        more = f" and {missing - _NAMED} more" if missing > _NAMED else ""
-        return f"phase {counts.phase} lacks the signal of {names}{more}"
+        text = ctypes.create_string_buffer(_LACKS_MAX)
+        _quick.phase_shared_lacks(self._at, text, _LACKS_MAX)
+        return text.value.decode()
 
     def _got(self):
         value = self._value.value
@@ -554,7 +589,7 @@ class SharedPhaser(Registration):
         bound = phase._numbered(bound, 64, phase.BadBound)
         phases, place = phase._numbered(phases, 64, phase.BadPhases), _Place()
         phase._done(_lib.phase_shared_new(operation, bound, phases, place))
-        self._take(place)
+        self._take(place, _Closing())
 
 
 def _leave(place, process):
@@ -563,10 +598,10 @@ def _leave(place, process):
         _lib.phase_shared_leave(place)
 
 
-def _of(place):
+def _of(place, closing):
     """The registration of a child that was made."""
     child = object.__new__(Registration)
-    child._take(place)
+    child._take(place, closing)
     return child
 
 

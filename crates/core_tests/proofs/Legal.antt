@@ -2,15 +2,15 @@
 use Rattle.std.proofs.Common.{◌≡◌, ◌≢◌, ℕ, ◌+◌, Bool, true, false, cond, eqb, [], ◌∷◌, ◌++◌, ◌||◌, Some, None, pos, refl, sym, subst, ◌∙◌, arith}
 use Rattle.std.proofs.lemmas.Bool.{eqb-true}
 use Rattle.std.specs.Prelude.{IsSome}
-use Rattle.phase_core.specs.phase_base.Limits.{AreLimits}
-use Rattle.phase_core.specs.phase_base.declared.mode.Mode.TheVariants.{Sig, Wait}
-use Rattle.phase_core.specs.phase_history.declared.event.Event.TheVariants.{Registered, Signalled, Waited, Dropped}
-use Rattle.phase_core.specs.phase_history.Histories.{IsBeginning, founder, entry_at, has_dropped}
-use Rattle.phase_core.specs.phase_history.Phases.{list_in_phase}
-use Rattle.phase_core.specs.phase_history.Legal.{IsLegal}
-use Rattle.phase_core.specs.phase_history.Others.{is_by, IsUsed, OnlyUsed, OthersCame, children_in, events_of}
-use Rattle.phase_core.specs.phase_base.Lists.{is_in}
-use Rattle.phase_core.specs.phase_history.Sent.{sent_in, OnlySignalled, OneHasSent}
+use Rattle.phase_base.specs.Limits.{AreLimits}
+use Rattle.phase_base.specs.declared.mode.Mode.TheVariants.{Sig, Wait}
+use Rattle.phase_history.specs.declared.event.Event.TheVariants.{Registered, Signalled, Waited, Dropped}
+use Rattle.phase_history.specs.Histories.{IsBeginning, founder, entry_at, has_dropped}
+use Rattle.phase_history.specs.Phases.{list_in_phase}
+use Rattle.phase_history.specs.Legal.{IsLegal}
+use Rattle.phase_history.specs.Others.{is_by, IsUsed, OnlyUsed, OthersCame, children_in, events_of}
+use Rattle.phase_base.specs.Lists.{is_in}
+use Rattle.phase_history.specs.Sent.{sent_in, OnlySignalled, OneHasSent}
 use Rattle.core_tests.specs.Worked.{worked_limits, founded, one_child, one_signal, two_signals, one_wait, all_left, all_got, everyone_left, half_turn, late_child}
 
 limits_are : AreLimits worked_limits

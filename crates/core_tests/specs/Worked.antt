@@ -1,9 +1,9 @@
 -- The histories of one phaser at which each law of histories is used.
 use Rattle.std.specs.Prelude.{ℤ, List, [], ◌∷◌, None, pos}
-use Rattle.phase_core.specs.phase_base.Limits.{Limits, limits}
-use Rattle.phase_core.specs.phase_base.declared.mode.Mode.TheVariants.{Sig, Wait}
-use Rattle.phase_core.specs.phase_history.declared.event.Event.TheVariants.{Made, Registered, Signalled, Waited, Dropped}
-use Rattle.phase_core.specs.phase_history.Histories.{History}
+use Rattle.phase_base.specs.Limits.{Limits, limits}
+use Rattle.phase_base.specs.declared.mode.Mode.TheVariants.{Sig, Wait}
+use Rattle.phase_history.specs.declared.event.Event.TheVariants.{Made, Registered, Signalled, Waited, Dropped}
+use Rattle.phase_history.specs.Histories.{History}
 
 -- a bound of 2, and 100 phases
 abbrev pub worked_limits : Limits

@@ -2,13 +2,13 @@
 use crate::calls::{
     Answer, Call, Case, Phaser, UNWRITTEN, follow_all, follow_all_of_values, lists_of,
 };
-use phase_core::phase_accum::Outcome::{TooBig, Value};
-use phase_core::phase_accum::{Pending, Sum};
-use phase_core::phase_base::Mode;
+use phase_accum::Outcome::{TooBig, Value};
+use phase_accum::{Pending, Sum};
+use phase_base::Mode;
 use phase_core::{PhaserCore, RegisterRefusal, SignalRefusal, WaitRefusal};
 use std::test::Fail;
 
-const CASES: [Case; 12] = [
+static CASES: [Case; 12] = [
     Case {
         name: "a block is signalled and taken by others",
         bound: 4,

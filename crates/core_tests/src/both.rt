@@ -1,10 +1,10 @@
 //! Signals and waits in one, as calls on a phaser under sum.
 use crate::calls::{Answer, Call, Case, follow_all};
-use phase_core::phase_base::{Entry, Mode};
+use phase_base::{Entry, Mode};
 use phase_core::{SignalRefusal, WaitRefusal};
 use std::test::Fail;
 
-const CASES: [Case; 7] = [
+static CASES: [Case; 7] = [
     Case {
         name: "the only task passes phase after phase, until there are no more",
         bound: 1,

@@ -1,6 +1,6 @@
 //! Calls on a phaser under sum and what they are answered, of which this crate's tables are made.
-use phase_core::phase_accum::{Outcome, Pending, SendFault, Single, Sum};
-use phase_core::phase_base::{Entry, Mode, Spec};
+use phase_accum::{Outcome, Pending, SendFault, Single, Sum};
+use phase_base::{Entry, Mode, Spec};
 use phase_core::{
     Got, GotBlock, PhaserCore, RegisterRefusal, SignalRefusal, WaitRefusal, are_sends,
 };

@@ -1,5 +1,5 @@
 //! The mode table.
-use phase_core::phase_base::Mode;
+use phase_base::Mode;
 
 /// Whether a mode holds each of the four in their order, and signals, and waits.
 fn held_by(mode: Mode) -> [bool; 6] {

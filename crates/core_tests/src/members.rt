@@ -1,6 +1,6 @@
 //! Numbers that are used once, and as many members as may be, as calls on a registry.
-use phase_core::phase_base::{Entry, Mode};
-use phase_core::phase_registry::{AddRefusal, Registry};
+use phase_base::{Entry, Mode};
+use phase_registry::{AddRefusal, Registry};
 use std::alloc::Global;
 use std::process::Abort;
 
@@ -96,7 +96,7 @@ struct Case {
     calls: &'static [(Call, Answer)],
 }
 
-const CASES: [Case; 3] = [
+static CASES: [Case; 3] = [
     Case {
         name: "a number is used once",
         members: 0,

@@ -1,10 +1,10 @@
 //! A founder alone, and members that come and go, as calls on a phaser under sum.
 use crate::calls::{Answer, Call, Case, follow_all};
-use phase_core::phase_base::{Entry, Mode};
+use phase_base::{Entry, Mode};
 use phase_core::{RegisterRefusal, SignalRefusal, WaitRefusal};
 use std::test::Fail;
 
-const CASES: [Case; 9] = [
+static CASES: [Case; 9] = [
     Case {
         name: "a founder gets what it sent",
         bound: 2,

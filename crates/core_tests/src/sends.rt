@@ -1,5 +1,5 @@
 //! A task's pending sends, and each other public function once.
-use phase_core::phase_accum::{
+use phase_accum::{
     Accumulate, BadClamp, NO_VALUE, Outcome, Pending, Range, SendFault, Single, Sum, apply,
 };
 
@@ -74,7 +74,7 @@ struct Application {
     want: Result<Outcome, BadClamp>,
 }
 
-const APPLICATIONS: [Application; 12] = [
+static APPLICATIONS: [Application; 12] = [
     Application {
         name: "a half is whole",
         made: Made::Halve,

@@ -1,10 +1,10 @@
 //! Rings and phasers of many sizes, and founders of many numbers: where there is memory none is
 //! wanted.
 use crate::calls::{Answer, Call, Phaser};
+use phase_accum::Sum;
+use phase_base::Spec;
 use phase_core::PhaserCore;
-use phase_core::phase_accum::Sum;
-use phase_core::phase_base::Spec;
-use phase_core::phase_ring::SlotRing;
+use phase_ring::SlotRing;
 use std::alloc::Global;
 use std::process::Abort;
 use std::test::Fail;
@@ -15,7 +15,7 @@ const BESIDE: [u64; 14] = [
 ];
 
 /// Task numbers beside powers of 2 past 1,024, with the next number.
-const FOUNDERS: [(u64, Option<u64>); 12] = [
+static FOUNDERS: [(u64, Option<u64>); 12] = [
     (65535, Some(65536)),
     (65536, Some(65537)),
     (999999, Some(1000000)),

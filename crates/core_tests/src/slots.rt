@@ -1,6 +1,6 @@
 //! A ring of two slots.
-use phase_core::phase_accum::{Outcome, Pending, Sum};
-use phase_core::phase_ring::{MergeRefusal, Role, SlotRing};
+use phase_accum::{Outcome, Pending, Sum};
+use phase_ring::{MergeRefusal, Role, SlotRing};
 use std::test::Fail;
 
 #[test]

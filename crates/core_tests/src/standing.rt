@@ -1,7 +1,7 @@
 //! Who is registered and who is missing, after calls on a phaser under sum of bound 2.
 use crate::calls::{Answer, Call, Phaser};
-use phase_core::phase_accum::Sum;
-use phase_core::phase_base::Mode;
+use phase_accum::Sum;
+use phase_base::Mode;
 use phase_core::{LateTasks, PhaserCore, Standing};
 use std::test::Fail;
 
@@ -14,7 +14,7 @@ struct Row {
     slowest: &'static [u64],
 }
 
-const ROWS: [Row; 9] = [
+static ROWS: [Row; 9] = [
     Row {
         name: "a founder that has not signalled is missing",
         calls: &[],

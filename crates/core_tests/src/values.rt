@@ -1,12 +1,12 @@
 //! Signals of values, and each way in which a phaser begins and ends to keep values alone, as calls
 //! on a phaser under sum.
 use crate::calls::{Answer, Call, Case, UNWRITTEN, follow_all};
-use phase_core::phase_accum::Outcome::Value;
-use phase_core::phase_base::Mode;
+use phase_accum::Outcome::Value;
+use phase_base::Mode;
 use phase_core::{SignalRefusal, WaitRefusal};
 use std::test::Fail;
 
-const CASES: [Case; 19] = [
+static CASES: [Case; 19] = [
     Case {
         name: "values are taken, and more come behind them",
         bound: 4,

@@ -3,29 +3,29 @@
 ghost use Rattle.std.specs.Prelude.{◌≡◌, ◌≢◌, ◌+◌, ◌≤◌, ℕ, [], ◌∷◌, length, Some, None, pos, IsSome, true, false, ◌↔◌, get_or};
 ghost use Rattle.std.specs.List.{All, sum_by};
 ghost use mathlib.Core.List.{IsPrefix};
-ghost use Rattle.phase_core.specs.phase_base.Members.{entry_of};
-ghost use Rattle.phase_core.specs.phase_base.declared.entry.Entry.{Entry};
-ghost use Rattle.phase_core.specs.phase_base.declared.mode.Mode.TheVariants.{Sig, Wait, Single};
-ghost use Rattle.phase_core.specs.phase_accum.Values.{IsInRange, sum_value};
-ghost use Rattle.phase_core.specs.phase_accum.declared.outcome.Outcome.TheVariants.{Value};
-ghost use Rattle.phase_core.specs.phase_history.declared.call.Call.TheVariants as call;
-ghost use Rattle.phase_core.specs.phase_history.declared.event.Event.TheVariants.{Signalled};
-ghost use Rattle.phase_core.specs.phase_history.declared.refusal.RegisterRefusal.TheVariants as register;
-ghost use Rattle.phase_core.specs.phase_history.declared.refusal.SignalRefusal.TheVariants as signal;
-ghost use Rattle.phase_core.specs.phase_history.declared.refusal.WaitRefusal.TheVariants as wait;
-ghost use Rattle.phase_core.specs.phase_history.Histories.{IsBeginning, HasNoSignaller, IsAlive, entry_at, founder, members_of, done_of, top_of, wait_phase, start_of, has_dropped, phases_signalled, phases_waited};
-ghost use Rattle.phase_core.specs.phase_history.Phases.{stream_of, received_by, sends_of_phase, named_in_phase, single_of_phase};
-ghost use Rattle.phase_core.specs.phase_history.Legal.{AreLists, IsLegal};
-ghost use Rattle.phase_core.specs.phase_history.Laws.{HasReceived, HasReceivedFrom, HasCounted, HasNoEvents, IsInTurn, IsAnswered, GoesOn, GoesOnPlainly};
-ghost use Rattle.phase_core.specs.phase_history.Blocks.{one_by_one_refusal, one_by_one, LeavesSame, IsAnsweredBlock};
-ghost use Rattle.phase_core.specs.phase_history.Others.{IsUsed, OnlyUsed, OthersCame, events_of, phases_of_signal, phases_of_wait};
-ghost use Rattle.phase_core.specs.phase_history.Sent.{sent_by, sent_in, gathered, IsSilent, ReachesTop};
-ghost use Rattle.phase_core.specs.phase_history.Refusals.{register_refusal, register_now_refusal, signal_refusal, wait_refusal, drop_refusal};
-ghost use Rattle.phase_core.specs.phase_history.Replies.{refused_or, signal_reply, wait_reply, wait_block_reply, reply_to, after_reply, after_register, after_register_now, after_signal, after_wait, after_wait_block, after_drop};
+ghost use Rattle.phase_base.specs.Members.{entry_of};
+ghost use Rattle.phase_base.specs.declared.entry.Entry.{Entry};
+ghost use Rattle.phase_base.specs.declared.mode.Mode.TheVariants.{Sig, Wait, Single};
+ghost use Rattle.phase_accum.specs.Values.{IsInRange, sum_value};
+ghost use Rattle.phase_accum.specs.declared.outcome.Outcome.TheVariants.{Value};
+ghost use Rattle.phase_history.specs.declared.call.Call.TheVariants as call;
+ghost use Rattle.phase_history.specs.declared.event.Event.TheVariants.{Signalled};
+ghost use Rattle.phase_history.specs.declared.refusal.RegisterRefusal.TheVariants as register;
+ghost use Rattle.phase_history.specs.declared.refusal.SignalRefusal.TheVariants as signal;
+ghost use Rattle.phase_history.specs.declared.refusal.WaitRefusal.TheVariants as wait;
+ghost use Rattle.phase_history.specs.Histories.{IsBeginning, HasNoSignaller, IsAlive, entry_at, founder, members_of, done_of, top_of, wait_phase, start_of, has_dropped, phases_signalled, phases_waited};
+ghost use Rattle.phase_history.specs.Phases.{stream_of, received_by, sends_of_phase, named_in_phase, single_of_phase};
+ghost use Rattle.phase_history.specs.Legal.{AreLists, IsLegal};
+ghost use Rattle.phase_history.specs.Laws.{HasReceived, HasReceivedFrom, HasCounted, HasNoEvents, IsInTurn, IsAnswered, GoesOn, GoesOnPlainly};
+ghost use Rattle.phase_history.specs.Blocks.{one_by_one_refusal, one_by_one, LeavesSame, IsAnsweredBlock};
+ghost use Rattle.phase_history.specs.Others.{IsUsed, OnlyUsed, OthersCame, events_of, phases_of_signal, phases_of_wait};
+ghost use Rattle.phase_history.specs.Sent.{sent_by, sent_in, gathered, IsSilent, ReachesTop};
+ghost use Rattle.phase_history.specs.Refusals.{register_refusal, register_now_refusal, signal_refusal, wait_refusal, drop_refusal};
+ghost use Rattle.phase_history.specs.Replies.{refused_or, signal_reply, wait_reply, wait_block_reply, reply_to, after_reply, after_register, after_register_now, after_signal, after_wait, after_wait_block, after_drop};
 ghost use Rattle.core_tests.specs.Worked.{worked_limits, founded, one_child, one_signal, two_signals, one_wait, all_left, all_got, everyone_left, half_turn, late_child, one_list, two_lists};
 
-use phase_core::laws;
-use phase_core::phase_accum::{Sum, laws as values};
+use phase_accum::{Sum, laws as values};
+use phase_history::laws;
 
 /// What tasks have received, and that it is in range.
 fn received_streams()

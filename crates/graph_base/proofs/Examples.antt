@@ -2,13 +2,13 @@
 use Rattle.std.proofs.Common.{ℕ, ◌≡◌, ◌<◌, ◌≤◌, [], ◌∷◌, Some, None, true, refl, arith}
 use Rattle.std.specs.List.{All, Contains}
 use Rattle.std.proofs.lemmas.List.Elements.{All-cons, All-nil}
-use Rattle.phase_accum.specs.phase_base.declared.operation.Op.TheVariants.{Sum}
+use Rattle.phase_base.specs.declared.operation.Op.TheVariants.{Sum}
 use Rattle.graph_base.specs.declared.line.Kind.TheVariants.{Source, Decimate, Peer, Sink}
 use Rattle.graph_base.specs.declared.place.Place.TheVariants as place
 use Rattle.graph_base.specs.Graphs.{Graph, no_task, no_phaser, no_graph, name_at, sources_of, source_number, task_at, phaser_at}
 use Rattle.graph_base.specs.TaskLines.{IsTaskLine}
 use Rattle.graph_base.specs.Registrations.{registrations_of, signalled_by}
-use Rattle.phase_accum.specs.phase_base.declared.mode.Mode.TheVariants as mode
+use Rattle.phase_base.specs.declared.mode.Mode.TheVariants as mode
 use Rattle.phase_accum.specs.declared.single.Single.TheVariants.{Neg}
 
 one : (P : ℕ → Type 0) (p : ℕ) → P p → All P (p ∷ [])

@@ -3,8 +3,8 @@ use Rattle.std.proofs.Common.{ℕ, ◌≡◌, ◌<◌, ◌≤◌, ◌==◌, ◌&
 use Rattle.std.specs.List.{list_all}
 use Rattle.std.proofs.lemmas.Bool.{and_parts}
 use Rattle.std.proofs.lemmas.List.{get_or-map, length-map}
-use Rattle.phase_accum.specs.phase_base.Words.{is_word_byte, is_file}
-use Rattle.phase_accum.specs.phase_base.declared.word.TheConstants.{FILE_MAX}
+use Rattle.phase_base.specs.Words.{is_word_byte, is_file}
+use Rattle.phase_base.specs.declared.word.TheConstants.{FILE_MAX}
 use Rattle.graph_base.specs.Names.{files_of}
 
 -- a file that is lent is one of the graph's

@@ -4,8 +4,8 @@ use Rattle.std.specs.Prelude.{slice_index}
 use Rattle.std.specs.List.{list_all}
 use Rattle.std.proofs.lemmas.Bool.{and_parts, leb-true}
 use Rattle.std.proofs.lemmas.List.{get_or-map}
-use Rattle.phase_accum.specs.phase_base.Words.{is_name, is_letter, is_name_byte, is_kind_word, is_mark}
-use Rattle.phase_accum.specs.phase_base.declared.word.TheConstants.{NAME_MAX}
+use Rattle.phase_base.specs.Words.{is_name, is_letter, is_name_byte, is_kind_word, is_mark}
+use Rattle.phase_base.specs.declared.word.TheConstants.{NAME_MAX}
 use Rattle.graph_base.specs.Graphs.{no_task}
 use Rattle.graph_base.specs.GraphFields.{task_of}
 use Rattle.graph_base.specs.declared.line.TaskLine.{TaskLine}

@@ -1,7 +1,7 @@
 -- A graph as lists: what its lines declare.
 use Rattle.std.specs.Prelude.{ℕ, ◌<◌, ◌==◌, List, [], ◌∷◌, length, take, get_or, ℤ, pos, Option, None, Bool, true, false, if◌then◌else◌}
 use Rattle.std.specs.List.{count_by}
-use Rattle.phase_accum.specs.phase_base.declared.operation.Op.TheVariants.{Sum}
+use Rattle.phase_base.specs.declared.operation.Op.TheVariants.{Sum}
 use Rattle.graph_base.specs.declared.line.Kind.{Kind}
 use Rattle.graph_base.specs.declared.line.Kind.TheVariants.{Source, Fir, Split, Decimate, Join, Peer, Sink}
 use Rattle.graph_base.specs.declared.line.Parent.{Parent}

@@ -1,9 +1,9 @@
 -- What a task is registered for, on each of its phasers.
 use Rattle.std.specs.Prelude.{ℕ, ◌≡◌, List, [], ◌∷◌, ◌++◌, map, get_or, Some, None, is_some, option_map, if◌then◌else◌}
 use Rattle.std.specs.List.{enumerate_from, filter_map}
-use Rattle.phase_accum.specs.phase_base.Modes.{mode_waits, mode_signals}
-use Rattle.phase_accum.specs.phase_base.declared.mode.Mode.{Mode}
-use Rattle.phase_accum.specs.phase_base.declared.mode.Mode.TheVariants as mode
+use Rattle.phase_base.specs.Modes.{mode_waits, mode_signals}
+use Rattle.phase_base.specs.declared.mode.Mode.{Mode}
+use Rattle.phase_base.specs.declared.mode.Mode.TheVariants as mode
 use Rattle.graph_base.specs.Graphs.{Graph, Task, phaser_at}
 use Rattle.graph_base.specs.declared.line.Kind.{Kind}
 use Rattle.graph_base.specs.declared.line.Kind.TheVariants.{Peer}

@@ -1,12 +1,12 @@
 -- What holds of each line of a graph that was read.
 use Rattle.std.specs.Prelude.{ℕ, ◌≡◌, ◌<◌, ◌≤◌, List, [], ◌++◌, length, get_or, ℤ, pos, unsigned_abs, Some, None, IfSome, IsSome, IsTrue, Bool, true, false}
 use Rattle.std.specs.List.{All, Contains}
-use Rattle.phase_accum.specs.phase_base.Limits.{IsBound}
-use Rattle.phase_accum.specs.phase_base.Lists.{is_distinct}
+use Rattle.phase_base.specs.Limits.{IsBound}
+use Rattle.phase_base.specs.Lists.{is_distinct}
 use Rattle.phase_accum.specs.Singles.{CanBeNamed}
 use Rattle.stream_filters.specs.Filter.{AreTaps, no_form}
 use Rattle.stream_filters.specs.declared.form.Form.{Form}
-use Rattle.phase_accum.specs.phase_base.Words.{Word, is_name, is_file}
+use Rattle.phase_base.specs.Words.{Word, is_name, is_file}
 use Rattle.graph_base.specs.Graphs.{Task, Graph, IsPlace, task_at, phaser_at, name_at, sources_of}
 use Rattle.graph_base.specs.Names.{place_of}
 use Rattle.graph_base.specs.declared.limits.TheConstants.{PHASERS_MAX, TASKS_MAX, ENDS_MAX, STEPS_MAX, FACTOR_MAX, EVERY_MAX}

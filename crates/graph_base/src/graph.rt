@@ -1,6 +1,6 @@
 //! Graphs.
 ghost use Rattle.std.specs.Prelude.{◌≡◌, ◌<◌, ◌≤◌, ◌+◌, length, get_or, IsTrue, Some};
-ghost use Rattle.phase_accum.specs.phase_base.Words.{is_name, is_file};
+ghost use Rattle.phase_base.specs.Words.{is_name, is_file};
 ghost use Rattle.graph_base.specs.Graphs.{Graph as GraphValue, IsPlace, is_sink, is_source, source_number, sources_of, task_at, phaser_at, file_at, name_at, name_among};
 ghost use Rattle.graph_base.specs.TaskLines.{IsGraph, IsPhaserLine, IsTaskLine};
 ghost use Rattle.graph_base.specs.Names.{place_of, names_of};
@@ -12,7 +12,7 @@ use crate::line::{Kind, PhaserLine, TaskLine};
 use crate::place::Place;
 use crate::registration::Registration;
 use indexmap::IndexMap;
-use phase_accum::phase_base::{FILE_MAX, Mode, NAME_MAX};
+use phase_base::{FILE_MAX, Mode, NAME_MAX};
 use std::alloc::Global;
 use std::marker::Model;
 

@@ -1,6 +1,6 @@
 //! What a task is registered for on a phaser.
 
-use phase_accum::phase_base::Mode;
+use phase_base::Mode;
 
 /// The registration of a task on one of its phasers. It is an input of the task, or an output, or
 /// both: a peer's exchange is its input 1 and its output 0, so that its Y is output 1.

@@ -5,8 +5,8 @@ use Rattle.graph_commands.specs.Puts.{PutsBytes}
 use Rattle.graph_commands.proofs.Putting.{Puts-append}
 use Rattle.std.specs.List.{flat_map, range_with_len}
 use Rattle.std.proofs.lemmas.Grind.{flat_map-append}
-use Rattle.stream_eval.proofs.stream_lists_lemmas.Firsts.{range_more}
-use Rattle.graph_show.proofs.watched_io_lemmas.Items.{flat_map-push}
+use Rattle.stream_lists.proofs.Firsts.{range_more}
+use Rattle.watched_io.proofs.Items.{flat_map-push}
 
 pub range-parts : (a k m : ℕ) → range_with_len a (k + m) ≡ range_with_len a k ++ range_with_len (a + k) m
 range-parts a zero m =

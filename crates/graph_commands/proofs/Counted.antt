@@ -2,10 +2,10 @@
 use Rattle.std.proofs.Common.{◌≡◌, ℕ, ℤ, List, [], ◌∷◌, ◌++◌, length, sym, subst, Vec}
 use Rattle.std.specs.Global.{Global}
 use Rattle.std.proofs.lemmas.List.{length-map, map_push}
-use Rattle.graph_show.specs.graph_base.Graphs.{Graph, file_at}
-use Rattle.graph_show.proofs.graph_lang_lemmas.Grown.{each-push}
-use Rattle.graph_show.specs.graph_lang.Samples.{AreSamplesOf}
-use Rattle.stream_eval.specs.stream_lists.JobFields.{items_of}
+use Rattle.graph_base.specs.Graphs.{Graph, file_at}
+use Rattle.graph_lang.proofs.Grown.{each-push}
+use Rattle.graph_lang.specs.Samples.{AreSamplesOf}
+use Rattle.stream_lists.specs.JobFields.{items_of}
 use Rattle.graph_commands.specs.FileJobs.{AreFirstSamples, Known}
 
 -- one more source

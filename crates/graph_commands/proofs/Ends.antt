@@ -11,11 +11,11 @@ use Rattle.graph_commands.specs.declared.failure.Failure.{Failure}
 use Rattle.graph_commands.specs.declared.failure.Failure.TheVariants as failure
 use Rattle.graph_commands.specs.declared.fault.JobFault.{JobFault}
 use Rattle.graph_commands.specs.declared.fault.JobFault.TheVariants as fault
-use Rattle.graph_show.specs.watched_io.States.{WriterState}
-use Rattle.graph_show.specs.watched_io.declared.explain.Explain.{Explain}
-use Rattle.graph_show.specs.watched_io.declared.status.Status.{Status}
-use Rattle.graph_show.specs.watched_io.declared.status.Status.TheVariants.{Done, Failed, GraphRefused, TooBig}
-use Rattle.graph_show.specs.watched_io.declared.watched.Watched.{Watched}
+use Rattle.watched_io.specs.States.{WriterState}
+use Rattle.watched_io.specs.declared.explain.Explain.{Explain}
+use Rattle.watched_io.specs.declared.status.Status.{Status}
+use Rattle.watched_io.specs.declared.status.Status.TheVariants.{Done, Failed, GraphRefused, TooBig}
+use Rattle.watched_io.specs.declared.watched.Watched.{Watched}
 
 -- ---- statuses
 

@@ -3,11 +3,11 @@ use Rattle.std.specs.Global.{Global}
 use Rattle.std.specs.Prelude.{Vec}
 use Rattle.std.proofs.Common.{◌≡◌, ℕ, List, [], ◌∷◌, ◌++◌, map, Ok, refl, ap, ◌∙◌}
 use Rattle.std.specs.List.{flat_map}
-use Rattle.graph_show.specs.graph_base.Graphs.{Graph}
+use Rattle.graph_base.specs.Graphs.{Graph}
 use Rattle.graph_commands.specs.Explained.{AreFurtherLines, IsTextOf, further_line}
 use Rattle.graph_commands.specs.FileJobs.{IsGraphOf, Known}
-use Rattle.graph_show.specs.graph_lang.Reads.{ReadsText}
-use Rattle.graph_show.specs.graph_text.Texts.{lines_of}
+use Rattle.graph_lang.specs.Reads.{ReadsText}
+use Rattle.graph_text.specs.Texts.{lines_of}
 
 -- the graph of a file's text is that of the file
 pub graph-of-text : (known : Known) (name text : List ℕ) (graph : Graph) → IsTextOf known name text

@@ -2,7 +2,7 @@
 use Rattle.std.proofs.Common.{◌≡◌, ℕ, zero, suc, ◌+◌, ◌<◌, ◌≤◌, ◌==◌, List, [], ◌∷◌, map, length, drop, get_or, Bool, true, false, refl, ap, ◌∙◌, arith, length-append}
 use Rattle.std.specs.List.{filter, range_with_len}
 use Rattle.std.proofs.lemmas.List.{drop_more}
-use Rattle.stream_eval.proofs.stream_lists_lemmas.Firsts.{filter-take}
+use Rattle.stream_lists.proofs.Firsts.{filter-take}
 use Rattle.stream_eval.specs.Results.{sink_output}
 use Rattle.stream_eval.specs.declared.whole.Lines.{Lines}
 use Rattle.graph_commands.specs.OutputTexts.{values_of_sink}

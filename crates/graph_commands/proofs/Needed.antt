@@ -1,8 +1,8 @@
 -- Where memory may run out: over a graph's file that is not too long.
 use Rattle.std.proofs.Common.{ℕ, ◌≤◌, List, length, None, Some, subst}
 use Rattle.std.specs.declared.option.Option.{Option}
-use Rattle.graph_show.specs.watched_io.Files.{HasBytes, MayNeedMemory}
-use Rattle.graph_show.specs.graph_base.Graphs.{Graph}
+use Rattle.watched_io.specs.Files.{HasBytes, MayNeedMemory}
+use Rattle.graph_base.specs.Graphs.{Graph}
 use Rattle.graph_commands.specs.FileJobs.{IsGraphOf, Known}
 use Rattle.graph_commands.specs.declared.graph_file.TheConstants.{GRAPH_MAX}
 

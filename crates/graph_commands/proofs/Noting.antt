@@ -3,10 +3,10 @@ use Rattle.std.proofs.Common.{List, ℕ, ◌++◌, refl}
 use Rattle.std.specs.Io.KnownBytes.{Appends}
 use Rattle.std.proofs.KnownBytes.{Appends-trans}
 use Rattle.std.specs.declared.option.Option.{Option}
-use Rattle.graph_show.proofs.watched_io_lemmas.Writing.{prefix_after, prefix_of_prefix}
-use Rattle.graph_show.specs.graph_base.Graphs.{Graph}
-use Rattle.graph_show.specs.watched_io.Prefix.{AppendsPrefix}
-use Rattle.graph_show.specs.watched_io.declared.explain.Explain.{Explain}
+use Rattle.watched_io.proofs.Writing.{prefix_after, prefix_of_prefix}
+use Rattle.graph_base.specs.Graphs.{Graph}
+use Rattle.watched_io.specs.Prefix.{AppendsPrefix}
+use Rattle.watched_io.specs.declared.explain.Explain.{Explain}
 use Rattle.graph_commands.specs.Ends.{AreNotes, WritesCheck, WritesCheckPrefix}
 use Rattle.graph_commands.specs.GraphRuns.{check_line}
 

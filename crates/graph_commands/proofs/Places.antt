@@ -6,14 +6,14 @@ use Rattle.std.proofs.lemmas.List.{get_or-map, get_or_push, get_or_append_left, 
 use Rattle.std.proofs.lemmas.List.Elements.{All-filter, All-map}
 use Rattle.std.proofs.lemmas.List.FromFn.{get_or-map-range_with_len, get_or-range_with_len, length-map-range_with_len, length-range_with_len}
 use Rattle.std.proofs.lemmas.Option.{none-some}
-use Rattle.graph_show.specs.graph_base.Graphs.{IsPlace}
-use Rattle.graph_show.specs.graph_base.declared.place.Place.{Place}
-use Rattle.graph_show.specs.graph_base.declared.place.Place.TheVariants as place
-use Rattle.stream_eval.specs.stream_lists.Jobs.{Job}
+use Rattle.graph_base.specs.Graphs.{IsPlace}
+use Rattle.graph_base.specs.declared.place.Place.{Place}
+use Rattle.graph_base.specs.declared.place.Place.TheVariants as place
+use Rattle.stream_lists.specs.Jobs.{Job}
 use Rattle.stream_eval.specs.Results.{sink_values}
-use Rattle.stream_eval.specs.stream_lists.Lists.{is_sink_at, lines_of, numbers_above, numbers_of, sink_over, sinks_of}
-use Rattle.stream_eval.specs.stream_lists.Ranges.{Where, fault_on, first_some, first_too_big, output_fault_of, output_faults, phase_fault_of}
-use Rattle.stream_eval.specs.stream_lists.Spans.{Schedule, schedule_of}
+use Rattle.stream_lists.specs.Lists.{is_sink_at, lines_of, numbers_above, numbers_of, sink_over, sinks_of}
+use Rattle.stream_lists.specs.Ranges.{Where, fault_on, first_some, first_too_big, output_fault_of, output_faults, phase_fault_of}
+use Rattle.stream_lists.specs.Spans.{Schedule, schedule_of}
 use Rattle.stream_eval.specs.declared.whole.Lines.{Lines}
 
 -- ---- the place of a value that is out of range

@@ -4,8 +4,8 @@ use Rattle.std.proofs.lemmas.List.{drop-take, take-take}
 use Rattle.std.specs.Io.KnownBytes.{Appends}
 use Rattle.std.proofs.KnownBytes.{Appends-trans}
 use Rattle.std.specs.declared.option.Option.{Option}
-use Rattle.graph_show.specs.watched_io.Prefix.{AppendsPrefix}
-use Rattle.graph_show.proofs.watched_io_lemmas.Writing.{prefix_of_prefix}
+use Rattle.watched_io.specs.Prefix.{AppendsPrefix}
+use Rattle.watched_io.proofs.Writing.{prefix_of_prefix}
 use Rattle.graph_commands.specs.Puts.{PutsBytes}
 
 -- all was written

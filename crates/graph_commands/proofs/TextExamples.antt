@@ -1,8 +1,8 @@
 -- The output text, worked out.
 use Rattle.std.specs.Prelude.{ℕ, ℤ, pos, neg_ℤ, Some, None, ◌≡◌, refl, List, [], ◌∷◌, codes}
 use Rattle.std.specs.Fmt.{digits}
-use Rattle.graph_show.specs.graph_base.Graphs.{Graph, no_graph}
-use Rattle.graph_show.specs.graph_base.declared.place.Place.TheVariants as place
+use Rattle.graph_base.specs.Graphs.{Graph, no_graph}
+use Rattle.graph_base.specs.declared.place.Place.TheVariants as place
 use Rattle.graph_commands.specs.OutputTexts.{text_of}
 
 -- a negative number

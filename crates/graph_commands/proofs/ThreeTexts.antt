@@ -3,7 +3,7 @@ use Rattle.std.proofs.Common.{ℕ, List, [], ◌++◌, sym, subst, append_assoc}
 use Rattle.std.specs.declared.option.Option.{Option}
 use Rattle.std.specs.Io.KnownBytes.{Appends}
 use Rattle.std.proofs.KnownBytes.{Appends-trans}
-use Rattle.graph_show.specs.watched_io.Prefix.{AppendsPrefix}
+use Rattle.watched_io.specs.Prefix.{AppendsPrefix}
 use Rattle.graph_commands.specs.Puts.{PutsBytes}
 use Rattle.graph_commands.proofs.Putting.{Puts-append, prefix_behind, prefix_of_put, prefix_within}
 

@@ -3,10 +3,10 @@ use Rattle.std.specs.Prelude.{ℕ, ℤ, ◌+◌, ◌-◌, ◌==◌, Bool, List, 
 use Rattle.std.specs.Fmt.{signed_decimal}
 use Rattle.std.specs.List.{flat_map, range_with_len}
 use Rattle.std.specs.declared.option.Option.{Option}
-use Rattle.graph_show.specs.graph_base.Graphs.{name_at}
-use Rattle.graph_show.specs.graph_base.declared.place.Place.TheVariants as place
-use Rattle.stream_eval.specs.stream_lists.Jobs.{Job}
-use Rattle.stream_eval.specs.stream_lists.Spans.{greatest, span_in}
+use Rattle.graph_base.specs.Graphs.{name_at}
+use Rattle.graph_base.specs.declared.place.Place.TheVariants as place
+use Rattle.stream_lists.specs.Jobs.{Job}
+use Rattle.stream_lists.specs.Spans.{greatest, span_in}
 
 -- a sink's number and its values
 abbrev pub SinkValues : Type 0

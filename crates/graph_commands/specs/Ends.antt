@@ -1,25 +1,23 @@
 -- How a command on a graph ends, by its status, and what stands on its streams then.
 use Rattle.std.specs.Prelude.{◌≡◌, ◌≢◌, ◌⊎◌, ◌++◌, ℕ, List, [], Option, None}
 use Rattle.std.specs.Io.KnownBytes.{Appends}
-use Rattle.graph_commands.specs.Explained.{AreFurtherLines, Tells, no_memory_line}
-use Rattle.graph_commands.specs.Failures.{FailsBy, IsUnanswered, IsUndrawn, IsUnread}
-use Rattle.graph_commands.specs.Failures.{failure_line, failure_status}
+use Rattle.graph_commands.specs.Explained.{AreFurtherLines, Tells, TellsRefusal, no_memory_line}
+use Rattle.graph_commands.specs.Failures.{FailsBy, IsUnanswered, IsUndrawn, IsUnread, failure_line, failure_status}
 use Rattle.graph_commands.specs.FileJobs.{IsJobOf, Known}
 use Rattle.graph_commands.specs.GraphDrawings.{Draws, DrawsPrefix}
-use Rattle.graph_commands.specs.GraphRuns.{Evaluates, EvaluatesColumns, EvaluatesColumnsPrefix}
-use Rattle.graph_commands.specs.GraphRuns.{EvaluatesPrefix, check_line}
+use Rattle.graph_commands.specs.GraphRuns.{Evaluates, EvaluatesColumns, EvaluatesColumnsPrefix, EvaluatesPrefix, check_line}
 use Rattle.graph_commands.specs.declared.failure.Failure.{Failure}
 use Rattle.graph_commands.specs.declared.failure.Failure.TheVariants as failure
-use Rattle.graph_show.specs.graph_base.Graphs.{Graph}
-use Rattle.graph_show.specs.watched_io.Prefix.{AppendsPrefix}
-use Rattle.graph_show.specs.watched_io.States.{WriterState, writer_state}
-use Rattle.graph_show.specs.watched_io.Statuses.{Says}
-use Rattle.graph_show.specs.watched_io.declared.explain.Explain.{Explain}
-use Rattle.graph_show.specs.watched_io.declared.explain.Explain.TheVariants.{No, Yes}
-use Rattle.graph_show.specs.watched_io.declared.status.Status.{Status}
-use Rattle.graph_show.specs.watched_io.declared.status.Status.TheVariants.{Done}
-use Rattle.graph_show.specs.watched_io.declared.watched.Watched.{Watched}
-use Rattle.stream_eval.specs.stream_lists.Jobs.{Job}
+use Rattle.graph_base.specs.Graphs.{Graph}
+use Rattle.watched_io.specs.Prefix.{AppendsPrefix}
+use Rattle.watched_io.specs.States.{WriterState, writer_state}
+use Rattle.watched_io.specs.Statuses.{Says}
+use Rattle.watched_io.specs.declared.explain.Explain.{Explain}
+use Rattle.watched_io.specs.declared.explain.Explain.TheVariants.{No, Yes}
+use Rattle.watched_io.specs.declared.status.Status.{Status}
+use Rattle.watched_io.specs.declared.status.Status.TheVariants.{Done}
+use Rattle.watched_io.specs.declared.watched.Watched.{Watched}
+use Rattle.stream_lists.specs.Jobs.{Job}
 
 -- ---- what is told of a failure
 
@@ -39,6 +37,12 @@ ExplainsFailure (failure.Io fault) more = more ≡ []
 pub record SaysMore (found : Failure) (before after : WriterState) : Type 0 where
   pub more : List ℕ
   pub explains : ExplainsFailure found more
+  pub says : Says more before after
+
+-- the name of a file was said and why it was refused, or that memory ran out over that
+pub record SaysRefusal (before after : WriterState) : Type 0 where
+  pub more : List ℕ
+  pub tells : TellsRefusal more ⊎ (more ≡ no_memory_line)
   pub says : Says more before after
 
 -- its line was said, and then that text

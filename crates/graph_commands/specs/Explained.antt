@@ -8,7 +8,7 @@ use Rattle.graph_commands.specs.declared.fault.JobFault.TheVariants as fault
 use Rattle.graph_commands.specs.declared.graph_file.TheConstants.{GRAPH_MAX}
 use Rattle.graph_commands.specs.Records.{IsStart, line_at, shown_at, shown_of}
 use Rattle.graph_show.specs.Explanations.{ExplainsFault, shown}
-use Rattle.graph_show.specs.watched_io.Files.{HasBytes}
+use Rattle.watched_io.specs.Files.{HasBytes}
 
 -- the text is that of the file of this name
 pub record IsTextOf (known : List ℕ → Option (List ℕ)) (name text : List ℕ) : Type 0 where

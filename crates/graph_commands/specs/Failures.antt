@@ -3,25 +3,23 @@ use Rattle.std.specs.Prelude.{◌≡◌, ◌⊎◌, ℕ, true, List, Option, Som
 use Rattle.graph_commands.specs.Explained.{AreFurtherLines, IsOfText, IsTextOf}
 use Rattle.graph_commands.specs.FileJobs.{Explains, IsJobOf, Known}
 use Rattle.graph_commands.specs.GraphDrawings.{ExplainsNoGraph}
-use Rattle.graph_commands.specs.GraphRuns.{job_line, job_status, no_sink_line, sink_named}
-use Rattle.graph_commands.specs.GraphRuns.{stalled_line, too_big_line}
+use Rattle.graph_commands.specs.GraphRuns.{job_line, job_status, no_sink_line, sink_named, stalled_line, too_big_line}
 use Rattle.graph_commands.specs.declared.failure.Failure.{Failure}
 use Rattle.graph_commands.specs.declared.failure.Failure.TheVariants as failure
 use Rattle.graph_commands.specs.declared.fault.JobFault.{JobFault}
 use Rattle.graph_commands.specs.declared.graph_file.TheConstants.{GRAPH_MAX}
-use Rattle.graph_show.specs.graph_base.Graphs.{IsPlace, name_at}
-use Rattle.graph_show.specs.graph_base.declared.place.Place.{Place}
-use Rattle.graph_show.specs.watched_io.Files.{MayNeedMemory}
-use Rattle.graph_show.specs.watched_io.States.{WriterState, writer_state}
-use Rattle.graph_show.specs.watched_io.Statuses.{fault_line}
-use Rattle.graph_show.specs.watched_io.declared.fault.IoFault.{IoFault}
-use Rattle.graph_show.specs.watched_io.declared.fault.IoFault.TheVariants.{OutOfMemory, WriteFault}
-use Rattle.graph_show.specs.watched_io.declared.status.Status.{Status}
-use Rattle.graph_show.specs.watched_io.declared.status.Status.TheVariants.{Failed, GraphRefused}
-use Rattle.graph_show.specs.watched_io.declared.status.Status.TheVariants.{Stalled, TooBig}
-use Rattle.graph_show.specs.watched_io.declared.watched.Watched.{Watched}
-use Rattle.stream_eval.specs.stream_lists.Jobs.{Job}
-use Rattle.stream_eval.specs.stream_lists.Ranges.{first_too_big}
+use Rattle.graph_base.specs.Graphs.{IsPlace, name_at}
+use Rattle.graph_base.specs.declared.place.Place.{Place}
+use Rattle.watched_io.specs.Files.{MayNeedMemory}
+use Rattle.watched_io.specs.States.{WriterState, writer_state}
+use Rattle.watched_io.specs.Statuses.{fault_line}
+use Rattle.watched_io.specs.declared.fault.IoFault.{IoFault}
+use Rattle.watched_io.specs.declared.fault.IoFault.TheVariants.{OutOfMemory, WriteFault}
+use Rattle.watched_io.specs.declared.status.Status.{Status}
+use Rattle.watched_io.specs.declared.status.Status.TheVariants.{Failed, GraphRefused, Stalled, TooBig}
+use Rattle.watched_io.specs.declared.watched.Watched.{Watched}
+use Rattle.stream_lists.specs.Jobs.{Job}
+use Rattle.stream_lists.specs.Ranges.{first_too_big}
 
 -- the status after a failure
 abbrev pub failure_status : Failure → Status

@@ -1,8 +1,8 @@
 -- Faults below a job as faults of the job.
-use Rattle.graph_show.specs.watched_io.declared.fault.FileFault.{FileFault}
-use Rattle.graph_show.specs.watched_io.declared.fault.FileFault.TheVariants as file_fault
-use Rattle.graph_show.specs.graph_lang.declared.fault.GraphRefusal.{GraphRefusal}
-use Rattle.graph_show.specs.graph_lang.declared.fault.GraphRefusal.TheVariants as graph_refusal
+use Rattle.watched_io.specs.declared.fault.FileFault.{FileFault}
+use Rattle.watched_io.specs.declared.fault.FileFault.TheVariants as file_fault
+use Rattle.graph_lang.specs.declared.fault.GraphRefusal.{GraphRefusal}
+use Rattle.graph_lang.specs.declared.fault.GraphRefusal.TheVariants as graph_refusal
 use Rattle.graph_commands.specs.declared.fault.JobFault.{JobFault}
 use Rattle.graph_commands.specs.declared.fault.JobFault.TheVariants as fault
 

@@ -3,17 +3,17 @@
 use Rattle.std.specs.Prelude.{ℕ, ◌≡◌, ◌<◌, ◌≤◌, ◌⊎◌, List, [], length, get_or, ℤ, true, Ok, Err, Some, None, IfSome, Vec, string_bytes}
 use Rattle.std.specs.Global.{Global}
 use Rattle.std.specs.declared.option.Option.{Option}
-use Rattle.graph_show.specs.graph_text.Texts.{lines_of}
-use Rattle.graph_show.specs.graph_base.Graphs.{Graph, task_at, file_at, name_at, is_source, source_number, sources_of}
-use Rattle.graph_show.specs.graph_lang.Reads.{ReadsText}
-use Rattle.graph_show.specs.graph_lang.declared.fault.FaultKind.TheVariants.{AnyMeets}
-use Rattle.graph_show.specs.graph_lang.declared.fault.GraphFault.{GraphFault}
-use Rattle.graph_show.specs.graph_base.declared.place.Place.TheVariants as place
-use Rattle.graph_show.specs.watched_io.Files.{HasBytes, MayBeRefused, MayNeedMemory}
-use Rattle.graph_show.specs.graph_lang.Samples.{AreSamplesOf, IsBadShortSample}
-use Rattle.graph_show.specs.graph_lang.declared.sample.TheConstants.{TEXT_MAX}
-use Rattle.stream_eval.specs.stream_lists.Jobs.{Job}
-use Rattle.stream_eval.specs.stream_lists.Meetings.{meeting_line}
+use Rattle.graph_text.specs.Texts.{lines_of}
+use Rattle.graph_base.specs.Graphs.{Graph, task_at, file_at, name_at, is_source, source_number, sources_of}
+use Rattle.graph_lang.specs.Reads.{ReadsText}
+use Rattle.graph_lang.specs.declared.fault.FaultKind.TheVariants.{AnyMeets}
+use Rattle.graph_lang.specs.declared.fault.GraphFault.{GraphFault}
+use Rattle.graph_base.specs.declared.place.Place.TheVariants as place
+use Rattle.watched_io.specs.Files.{HasBytes, MayBeRefused, MayNeedMemory}
+use Rattle.graph_lang.specs.Samples.{AreSamplesOf, IsBadShortSample}
+use Rattle.graph_lang.specs.declared.sample.TheConstants.{TEXT_MAX}
+use Rattle.stream_lists.specs.Jobs.{Job}
+use Rattle.stream_lists.specs.Meetings.{meeting_line}
 use Rattle.graph_commands.specs.Explained.{TellsPlace}
 use Rattle.graph_commands.specs.declared.fault.JobFault.{JobFault}
 use Rattle.graph_commands.specs.declared.fault.JobFault.TheVariants as fault

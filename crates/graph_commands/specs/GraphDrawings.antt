@@ -1,15 +1,15 @@
 -- What a drawing of a graph writes, and why its file tells none. No file is read but the graph's.
 use Rattle.std.specs.Prelude.{ℕ, List}
 use Rattle.std.specs.Io.KnownBytes.{Appends}
-use Rattle.graph_show.specs.graph_base.Graphs.{Graph}
+use Rattle.graph_base.specs.Graphs.{Graph}
 use Rattle.graph_show.specs.Drawings.{drawing}
 use Rattle.graph_commands.specs.FileJobs.{IsFaultOf, IsGraphOf, Known}
 use Rattle.graph_commands.specs.declared.fault.JobFault.{JobFault}
 use Rattle.graph_commands.specs.declared.fault.JobFault.TheVariants as fault
 use Rattle.graph_commands.specs.declared.graph_file.TheConstants.{GRAPH_MAX}
-use Rattle.graph_show.specs.watched_io.Files.{MayBeRefused, MayNeedMemory}
-use Rattle.graph_show.specs.watched_io.Prefix.{AppendsPrefix}
-use Rattle.graph_show.specs.watched_io.States.{WriterState}
+use Rattle.watched_io.specs.Files.{MayBeRefused, MayNeedMemory}
+use Rattle.watched_io.specs.Prefix.{AppendsPrefix}
+use Rattle.watched_io.specs.States.{WriterState}
 
 -- why the file of this name tells no graph; memory may run out only over one that is not too long
 abbrev pub ExplainsNoGraph : Known → List ℕ → JobFault → Type 0

@@ -5,24 +5,24 @@ use Rattle.std.specs.Str.{bytes_eq}
 use Rattle.std.specs.Io.KnownBytes.{Appends}
 use Rattle.std.specs.declared.option.Option.{Option}
 use Rattle.graph_show.specs.Explanations.{shown}
-use Rattle.graph_show.specs.graph_base.Graphs.{Graph, name_at}
-use Rattle.graph_show.specs.graph_lang.declared.fault.FaultKind.{FaultKind}
-use Rattle.graph_show.specs.graph_lang.declared.fault.FaultKind.TheVariants.{Syntax, Limit, Twice, Unknown, OutBeforeIn, BadParent, NotHeld, OverBound, AnyMeets}
-use Rattle.graph_show.specs.graph_base.declared.place.Place.TheVariants as place
-use Rattle.stream_eval.specs.stream_lists.Jobs.{Job}
-use Rattle.stream_eval.specs.stream_lists.Lists.{is_sink_at, lines_of, with_start}
-use Rattle.stream_eval.specs.stream_lists.Ranges.{Fits}
+use Rattle.graph_base.specs.Graphs.{Graph, name_at}
+use Rattle.graph_lang.specs.declared.fault.FaultKind.{FaultKind}
+use Rattle.graph_lang.specs.declared.fault.FaultKind.TheVariants.{Syntax, Limit, Twice, Unknown, OutBeforeIn, BadParent, NotHeld, OverBound, AnyMeets}
+use Rattle.graph_base.specs.declared.place.Place.TheVariants as place
+use Rattle.stream_lists.specs.Jobs.{Job}
+use Rattle.stream_lists.specs.Lists.{is_sink_at, lines_of, with_start}
+use Rattle.stream_lists.specs.Ranges.{Fits}
 use Rattle.graph_commands.specs.ColumnTexts.{columns_text}
 use Rattle.graph_commands.specs.OutputTexts.{lines_text}
 use Rattle.graph_commands.specs.FileJobs.{IsJobOf, Known}
 use Rattle.graph_commands.specs.declared.fault.JobFault.{JobFault}
 use Rattle.graph_commands.specs.declared.fault.JobFault.TheVariants as fault
-use Rattle.graph_show.specs.watched_io.declared.fault.IoFault.TheVariants.{OutOfMemory, ReadFault}
-use Rattle.graph_show.specs.watched_io.Prefix.{AppendsPrefix}
-use Rattle.graph_show.specs.watched_io.States.{WriterState}
-use Rattle.graph_show.specs.watched_io.Statuses.{fault_line}
-use Rattle.graph_show.specs.watched_io.declared.status.Status.{Status}
-use Rattle.graph_show.specs.watched_io.declared.status.Status.TheVariants.{Failed, GraphRefused}
+use Rattle.watched_io.specs.declared.fault.IoFault.TheVariants.{OutOfMemory, ReadFault}
+use Rattle.watched_io.specs.Prefix.{AppendsPrefix}
+use Rattle.watched_io.specs.States.{WriterState}
+use Rattle.watched_io.specs.Statuses.{fault_line}
+use Rattle.watched_io.specs.declared.status.Status.{Status}
+use Rattle.watched_io.specs.declared.status.Status.TheVariants.{Failed, GraphRefused}
 
 -- ---- what is written
 

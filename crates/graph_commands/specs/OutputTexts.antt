@@ -3,8 +3,8 @@ use Rattle.std.specs.Prelude.{ℕ, ℤ, List, [], ◌∷◌, ◌++◌, ◌==◌,
 use Rattle.std.specs.Fmt.{signed_decimal}
 use Rattle.std.specs.List.{flat_map}
 use Rattle.std.specs.declared.option.Option.{Option}
-use Rattle.graph_show.specs.graph_base.Graphs.{Graph, name_at}
-use Rattle.graph_show.specs.graph_base.declared.place.Place.TheVariants as place
+use Rattle.graph_base.specs.Graphs.{Graph, name_at}
+use Rattle.graph_base.specs.declared.place.Place.TheVariants as place
 
 -- a value on a line of its own
 abbrev pub value_text : ℤ → List ℕ

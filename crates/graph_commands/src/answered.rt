@@ -1,29 +1,28 @@
 //! A check and an evaluation of a graph.
 ghost use Rattle.std.specs.Prelude.{◌≡◌, ℕ, List, Option, Some, true, OnOk, OnErr, IfErr, option_map};
 ghost use Rattle.std.specs.Io.KnownBytes.{Appends};
-ghost use Rattle.graph_commands.specs.Ends.{AreNotes, CheckFails, Checks, ColumnsFail, EvalFails};
-ghost use Rattle.graph_commands.specs.Ends.{WritesCheck, WritesCheckPrefix};
+ghost use Rattle.graph_commands.specs.Ends.{AreNotes, CheckFails, Checks, ColumnsFail, EvalFails, WritesCheck, WritesCheckPrefix};
 ghost use Rattle.graph_commands.specs.Failures.{IsUnanswered};
 ghost use Rattle.graph_commands.specs.FileJobs.{IsJobOf, Known};
 ghost use Rattle.graph_commands.specs.GraphRuns.{AsksSink, Evaluates, EvaluatesColumns, check_line};
-ghost use Rattle.stream_eval.specs.stream_lists.Ranges.{first_too_big};
-ghost use Rattle.graph_show.specs.graph_base.declared.place.Place.{Place as PlaceValue};
-ghost use Rattle.graph_show.specs.watched_io.Prefix.{AppendsPrefix};
-ghost use Rattle.graph_show.specs.watched_io.States.{writer_state};
-ghost use Rattle.graph_show.specs.watched_io.Watched.{has_failed_of, inner_of};
+ghost use Rattle.stream_lists.specs.Ranges.{first_too_big};
+ghost use Rattle.graph_base.specs.declared.place.Place.{Place as PlaceValue};
+ghost use Rattle.watched_io.specs.Prefix.{AppendsPrefix};
+ghost use Rattle.watched_io.specs.States.{writer_state};
+ghost use Rattle.watched_io.specs.Watched.{has_failed_of, inner_of};
 
 use crate::asked::{AskedJob, read_asked, write_sinks};
 use crate::columns::write_columns;
 use crate::further::further_lines;
 use crate::notes::job_notes;
 use crate::{Failure, ValueTexts, read_job};
-use graph_show::graph_lang::{Graph, OneThread, SampleTexts};
-use graph_show::watched_io::{Explain, Files, IoFault, Watched, WriteFailed, write_parts};
+use graph_lang::{Graph, OneThread, SampleTexts};
 use itoa::Buffer;
 use std::alloc::Global;
 use std::io::Write;
-use stream_eval::stream_lists::Job;
 use stream_eval::{EvalFault, FilterLists, InTurn};
+use stream_lists::Job;
+use watched_io::{Explain, Files, IoFault, Watched, WriteFailed, write_parts};
 
 /// Reads a graph and the samples of its sources, and writes how many phasers and tasks there are.
 ///

@@ -6,20 +6,20 @@ ghost use Rattle.graph_commands.specs.FileJobs.{IsJobOf};
 ghost use Rattle.graph_commands.specs.GraphRuns.{AsksSink};
 ghost use Rattle.graph_commands.specs.OutputTexts.{lines_text};
 ghost use Rattle.stream_eval.specs.Results.{sink_output, sink_values};
-ghost use Rattle.stream_eval.specs.stream_lists.Jobs.{with_starts};
-ghost use Rattle.stream_eval.specs.stream_lists.Lists.{lines_of};
-ghost use Rattle.graph_show.specs.watched_io.Prefix.{AppendsPrefix};
-ghost use Rattle.graph_show.specs.watched_io.Watched.{has_failed_of, inner_of};
+ghost use Rattle.stream_lists.specs.Jobs.{with_starts};
+ghost use Rattle.stream_lists.specs.Lists.{lines_of};
+ghost use Rattle.watched_io.specs.Prefix.{AppendsPrefix};
+ghost use Rattle.watched_io.specs.Watched.{has_failed_of, inner_of};
 
 use crate::lines::write_values_by;
 use crate::sinks::{find_sink, values_of};
 use crate::{Failure, ValueTexts, read_job, write_lines};
-use graph_show::graph_lang::SampleTexts;
-use graph_show::watched_io::{Files, Watched, WriteFailed};
+use graph_lang::SampleTexts;
 use std::alloc::Global;
 use std::io::Write;
 use stream_eval::Lines;
-use stream_eval::stream_lists::Job;
+use stream_lists::Job;
+use watched_io::{Files, Watched, WriteFailed};
 
 /// A job, and what is asked for of it.
 #[derive(Drop)]

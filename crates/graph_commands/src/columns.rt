@@ -3,19 +3,18 @@ ghost use Rattle.std.specs.Prelude.{◌≡◌, ◌<◌, ◌≤◌, ◌++◌, ◌
 ghost use Rattle.std.specs.List.{All};
 ghost use Rattle.std.specs.Io.KnownBytes.{Appends};
 ghost use Rattle.stream_eval.specs.Results.{sink_values};
-ghost use Rattle.graph_commands.specs.ColumnTexts.{cell, cell_at, cells_text, columns_text, comma_before};
-ghost use Rattle.graph_commands.specs.ColumnTexts.{end_at, row_text, rows_of, value_at, value_cell};
+ghost use Rattle.graph_commands.specs.ColumnTexts.{cell, cell_at, cells_text, columns_text, comma_before, end_at, row_text, rows_of, value_at, value_cell};
 ghost use Rattle.graph_commands.specs.Puts.{PutsBytes};
-ghost use Rattle.graph_show.specs.watched_io.Prefix.{AppendsPrefix};
-ghost use Rattle.graph_show.specs.watched_io.Watched.{has_failed_of, inner_of};
+ghost use Rattle.watched_io.specs.Prefix.{AppendsPrefix};
+ghost use Rattle.watched_io.specs.Watched.{has_failed_of, inner_of};
 
 use crate::output_buffer::OutputBuffer;
-use graph_show::graph_base::Place;
-use graph_show::watched_io::{Watched, WriteFailed};
+use graph_base::Place;
 use itoa::Buffer;
 use std::io::Write;
 use stream_eval::Lines;
-use stream_eval::stream_lists::Job;
+use stream_lists::Job;
+use watched_io::{Watched, WriteFailed};
 
 /// The value of a sink at step `n`, where it has begun and has not ended.
 fn value_at(job: &Job, sink: &Lines, n: u128) -> Option<i64>

@@ -2,13 +2,13 @@
 ghost use Rattle.std.specs.Prelude.{◌≡◌, ℕ, List, OnOk, IfErr};
 ghost use Rattle.graph_commands.specs.Ends.{DrawFails};
 ghost use Rattle.graph_commands.specs.GraphDrawings.{Draws};
-ghost use Rattle.graph_show.specs.watched_io.States.{writer_state};
+ghost use Rattle.watched_io.specs.States.{writer_state};
 
 use crate::{Failure, read_graph_file};
-use graph_show::watched_io::{Files, Watched};
 use graph_show::write_drawing;
 use std::alloc::Global;
 use std::io::Write;
+use watched_io::{Files, Watched};
 
 /// Reads a graph, and no samples of its sources, and writes its drawing, as text for Graphviz.
 ///

@@ -1,9 +1,9 @@
 //! The reports of failures: their lines, and what explains them to a person.
 ghost use Rattle.std.specs.Prelude.{◌≡◌, IfErr, IfOk, OnOk};
-ghost use Rattle.graph_commands.specs.Ends.{IsTold, SaysMore};
+ghost use Rattle.graph_commands.specs.Ends.{IsTold, SaysMore, SaysRefusal};
 ghost use Rattle.graph_commands.specs.Explained.{Tells, TellsRefusal};
 ghost use Rattle.graph_commands.specs.Failures.{HasPlace, failure_status};
-ghost use Rattle.graph_show.specs.watched_io.States.{writer_state};
+ghost use Rattle.watched_io.specs.States.{writer_state};
 
 use crate::controls::without_controls;
 use crate::further::{further_lines, tell_bytes};
@@ -12,11 +12,13 @@ use crate::hints::{sink_texts, value_texts};
 use crate::meeting::meeting_found;
 use crate::records::record_explained;
 use crate::{Failure, FileRefusal, JobFault, Refuses};
+use graph_base::{Graph, Place};
+use graph_lang::read_graph;
 use graph_show::explanation;
-use graph_show::watched_io::{Explain, Files, Status, Watched};
 use itoa::Buffer;
 use std::alloc::{AllocError, Global};
 use std::io::Write;
+use watched_io::{Explain, Files, Status, Watched};
 
 /// What is told where memory runs out over an explanation.
 const NO_MEMORY: &str = "  no memory to explain it\n";
@@ -131,44 +133,89 @@ fn further<F: Files + Refuses>(
             told,
         } => record_explained(alloc, told),
         JobFault::ReadFault => match files.refused() {
-            Some((name, why)) => refusal_explained(alloc, name, why),
+            Some((name, why)) => refusal_told(alloc, name, &why_text(alloc, why, text)?),
             None => Ok(Vec::new(alloc)),
         },
         JobFault::OutOfMemory => Ok(Vec::new(alloc)),
     }
 }
 
-/// The name of a file, without control characters, and why it was refused.
-fn refusal_explained(alloc: Global, name: &str, why: FileRefusal) -> Result<Vec<u8>, AllocError>
+/// Tells a person the name of a file, and why it was refused, or that memory ran out over that.
+pub fn tell_refusal<E: Write>(alloc: Global, name: &str, why: &str, faults: &mut Watched<E>)
+    ensures { SaysRefusal
+        (writer_state E.contents faults.old) (writer_state E.contents faults.new) }
+{
+    match refusal_told(alloc, name, why) {
+        Ok(more) => tell_bytes(&more, faults),
+        Err(_) => tell_bytes(NO_MEMORY.as_bytes(), faults),
+    }
+}
+
+/// The name of a file and why it was refused, without control characters.
+fn refusal_told(alloc: Global, name: &str, why: &str) -> Result<Vec<u8>, AllocError>
     ensures { IfOk result (λ more. TellsRefusal more.items) }
 {
     let file = without_controls(alloc, name)?;
-    let why = why_text(alloc, why)?;
+    let why = without_controls(alloc, why)?;
     let mut more = Vec::new(alloc);
     more.extend_from_slice(b"  ")?;
     more.extend_from_slice(file.as_bytes())?;
     more.extend_from_slice(b": ")?;
-    more.extend_from_slice(&why)?;
+    more.extend_from_slice(why.as_bytes())?;
     more.extend_from_slice(b"\n")?;
     Ok(more)
 }
 
-/// Why a file was refused, for a person.
-fn why_text(alloc: Global, why: FileRefusal) -> Result<Vec<u8>, AllocError> {
+/// Why a file was refused, for a person, of a graph of this text.
+fn why_text(alloc: Global, why: FileRefusal, text: &[u8]) -> Result<String, AllocError> {
     match why {
-        FileRefusal::Missing => Vec::from_slice(alloc, b"there is no such file"),
-        FileRefusal::Folder => Vec::from_slice(alloc, b"it is a folder"),
-        FileRefusal::NotAllowed => Vec::from_slice(alloc, b"there is no permission to read it"),
-        FileRefusal::TooLong(limit) => limit_text(alloc, limit),
-        FileRefusal::Other => Vec::from_slice(alloc, b"it cannot be read"),
+        FileRefusal::Missing => String::from_str(alloc, "there is no such file"),
+        FileRefusal::Folder => String::from_str(alloc, "it is a folder"),
+        FileRefusal::NotAllowed => String::from_str(alloc, "there is no permission to read it"),
+        FileRefusal::TooLong(limit) => counted(alloc, "it has more than ", limit, " bytes"),
+        FileRefusal::GraphInput => String::from_str(alloc, "standard input is the graph already"),
+        FileRefusal::SourceInput => input_text(alloc, text),
+        FileRefusal::Awaited(count) => {
+            counted(
+                alloc,
+                "",
+                count,
+                " values of another sink wait for its next one",
+            )
+        }
+        FileRefusal::Other => String::from_str(alloc, "it cannot be read"),
     }
 }
 
-/// What a file has that is too long.
-fn limit_text(alloc: Global, limit: usize) -> Result<Vec<u8>, AllocError> {
+/// A text with a number.
+fn counted(alloc: Global, before: &str, number: usize, behind: &str) -> Result<String, AllocError> {
     let mut buffer = Buffer::new();
-    let mut text = Vec::from_slice(alloc, b"it has more than ")?;
-    text.extend_from_slice(buffer.format(limit).as_bytes())?;
-    text.extend_from_slice(b" bytes")?;
+    let mut text = String::from_str(alloc, before)?;
+    text.push_str(buffer.format(number))?;
+    text.push_str(behind)?;
     Ok(text)
+}
+
+/// Whose samples standard input has, where a graph of this text was read.
+fn input_text(alloc: Global, text: &[u8]) -> Result<String, AllocError> {
+    let mut told = String::from_str(alloc, "standard input has the samples of ")?;
+    match read_graph(alloc, text) {
+        Ok(graph) => told.push_str(first_on_input(&graph).unwrap_or("another source"))?,
+        Err(_) => told.push_str("another source")?,
+    }
+    told.push_str(" already")?;
+    Ok(told)
+}
+
+/// The name of the first source whose samples are those of standard input.
+fn first_on_input(graph: &Graph) -> Option<&str> {
+    for t in 0..graph.tasks() {
+        if graph.is_source(t) {
+            let source = graph.source_number(t);
+            if source < graph.sources() && graph.file(source) == "-" {
+                return Some(graph.name(Place::Task(t)));
+            }
+        }
+    }
+    None
 }

@@ -4,9 +4,9 @@ ghost use Rattle.graph_commands.specs.Failures.{failure_status};
 ghost use Rattle.graph_commands.specs.GraphRuns.{job_status};
 
 use crate::JobFault;
-use graph_show::graph_base::Place;
-use graph_show::watched_io::{IoFault, Status};
-use stream_eval::stream_lists::Job;
+use graph_base::Place;
+use stream_lists::Job;
+use watched_io::{IoFault, Status};
 
 /// Why a command on a graph failed, with what its line and its explanation need.
 #[derive(Drop)]

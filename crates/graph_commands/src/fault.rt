@@ -2,8 +2,8 @@
 ghost use Rattle.std.specs.Prelude.{◌≡◌};
 ghost use Rattle.graph_commands.specs.Faults.{of_file, of_graph};
 
-use graph_show::graph_lang::{GraphFault, GraphRefusal};
-use graph_show::watched_io::FileFault;
+use graph_lang::{GraphFault, GraphRefusal};
+use watched_io::FileFault;
 
 /// Why no job was made of a graph's file.
 #[derive(Debug, Drop)]

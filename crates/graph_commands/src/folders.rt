@@ -2,8 +2,8 @@
 ghost use Rattle.std.specs.Prelude.{◌≡◌, ◌≤◌, ℕ, List, IfOk, length, string_bytes, take};
 ghost use Rattle.graph_commands.specs.Folders.{beside, folder_of, is_whole, known_by};
 
-use graph_show::watched_io::Files;
 use std::alloc::{AllocError, Global};
+use watched_io::Files;
 
 /// Files that may be opened beside one of them.
 pub trait LooksBeside: Files {

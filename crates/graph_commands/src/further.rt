@@ -2,13 +2,13 @@
 ghost use Rattle.std.specs.Prelude.{◌≡◌, ◌++◌, map, IfOk, OnOk};
 ghost use Rattle.std.specs.List.{flat_map};
 ghost use Rattle.graph_show.specs.Explanations.{shown};
-ghost use Rattle.graph_show.specs.watched_io.Statuses.{Says};
-ghost use Rattle.graph_show.specs.watched_io.States.{writer_state};
+ghost use Rattle.watched_io.specs.Statuses.{Says};
+ghost use Rattle.watched_io.specs.States.{writer_state};
 ghost use Rattle.graph_commands.specs.Explained.{AreFurtherLines, further_line};
 
-use graph_show::watched_io::Watched;
 use std::alloc::{AllocError, Global};
 use std::io::Write;
+use watched_io::Watched;
 
 /// A byte as it is shown.
 pub(crate) fn shown(b: u8) -> u8

@@ -2,23 +2,22 @@
 ghost use Rattle.std.specs.Prelude.{◌≡◌, ◌++◌, map, true, OnOk, OnErr};
 ghost use Rattle.std.specs.Io.KnownBytes.{Appends};
 ghost use Rattle.graph_show.specs.Explanations.{shown};
-ghost use Rattle.graph_show.specs.graph_base.Graphs.{IsPlace, name_at};
+ghost use Rattle.graph_base.specs.Graphs.{IsPlace, name_at};
 ghost use Rattle.graph_commands.specs.Failures.{HasPlace, failure_line};
-ghost use Rattle.graph_commands.specs.GraphRuns.{graph_line, job_line, kind_text, no_sink_line};
-ghost use Rattle.graph_commands.specs.GraphRuns.{samples_line, stalled_line, too_big_line};
+ghost use Rattle.graph_commands.specs.GraphRuns.{graph_line, job_line, kind_text, no_sink_line, samples_line, stalled_line, too_big_line};
 ghost use Rattle.graph_commands.specs.Puts.{PutsBytes};
-ghost use Rattle.graph_show.specs.watched_io.Prefix.{AppendsPrefix};
-ghost use Rattle.graph_show.specs.watched_io.Statuses.{Reports, Says};
-ghost use Rattle.graph_show.specs.watched_io.States.{writer_state};
-ghost use Rattle.graph_show.specs.watched_io.Watched.{has_failed_of, inner_of};
+ghost use Rattle.watched_io.specs.Prefix.{AppendsPrefix};
+ghost use Rattle.watched_io.specs.Statuses.{Reports, Says};
+ghost use Rattle.watched_io.specs.States.{writer_state};
+ghost use Rattle.watched_io.specs.Watched.{has_failed_of, inner_of};
 
 use crate::further::shown;
 use crate::output_buffer::OutputBuffer;
 use crate::{Failure, JobFault};
-use graph_show::graph_lang::{FaultKind, Graph, GraphFault, Place};
-use graph_show::watched_io::{IoFault, Watched, WriteFailed, report, say};
+use graph_lang::{FaultKind, Graph, GraphFault, Place};
 use itoa::Buffer;
 use std::io::Write;
+use watched_io::{IoFault, Watched, WriteFailed, report, say};
 
 /// The word for a kind of fault.
 fn word_of(kind: FaultKind) -> &'static str

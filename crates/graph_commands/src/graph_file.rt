@@ -6,9 +6,9 @@ ghost use Rattle.graph_commands.specs.FileJobs.{IsGraphOf, Known};
 ghost use Rattle.graph_commands.specs.GraphDrawings.{ExplainsNoGraph};
 
 use crate::{Failure, JobFault};
-use graph_show::graph_lang::{Graph, read_graph};
-use graph_show::watched_io::Files;
+use graph_lang::{Graph, read_graph};
 use std::alloc::Global;
+use watched_io::Files;
 
 /// The longest text of a graph that is read, in bytes.
 pub const GRAPH_MAX: usize = 1_048_576;

@@ -1,14 +1,14 @@
 //! What is said of a name that no sink has, and of a value that is out of range.
-ghost use Rattle.graph_show.specs.graph_base.Graphs.{IsPlace};
+ghost use Rattle.graph_base.specs.Graphs.{IsPlace};
 
 use crate::GRAPH_MAX;
 use crate::members::signals;
 use crate::records::front_of;
-use graph_show::graph_base::{Graph, Place};
-use graph_show::graph_lang::graph_text::{lines_of, without_cr, words_of};
-use graph_show::watched_io::Files;
+use graph_base::{Graph, Place};
+use graph_text::{lines_of, without_cr, words_of};
 use itoa::Buffer;
 use std::alloc::{AllocError, Global};
+use watched_io::Files;
 
 /// Which sinks a graph has, as a text for a person.
 pub(crate) fn sink_texts(alloc: Global, graph: &Graph) -> Result<Vec<Vec<u8>>, AllocError> {
@@ -76,8 +76,8 @@ fn signaller_text(alloc: Global, graph: &Graph, p: usize) -> Result<Vec<u8>, All
     Ok(text)
 }
 
-/// Which line of a graph's file makes a value, and who signals it, as texts for a person: none
-/// where the file is refused now.
+/// Which line of a graph's file makes a value, and who signals it, as texts for a person: the line
+/// is left out where the file is refused now.
 pub(crate) fn value_texts<F: Files>(
     alloc: Global,
     file: &str,
@@ -87,9 +87,9 @@ pub(crate) fn value_texts<F: Files>(
 ) -> Result<Vec<Vec<u8>>, AllocError>
     requires { IsPlace graph.now place }
 {
-    let Ok(text) = files.read(alloc, file, GRAPH_MAX) else {
-        return Ok(Vec::new(alloc));
-    };
+    let text = files
+        .read(alloc, file, GRAPH_MAX)
+        .unwrap_or(Vec::new(alloc));
     let mut texts = line_texts(alloc, &text, graph.name(place).as_bytes())?;
     if let Place::Phaser(p) = place {
         texts.push(signaller_text(alloc, graph, p)?)?;

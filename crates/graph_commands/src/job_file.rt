@@ -6,10 +6,10 @@ ghost use Rattle.graph_commands.specs.FileJobs.{Explains, IsGraphOf, IsJobOf};
 
 use crate::sources::read_sources;
 use crate::{Failure, GRAPH_MAX, JobFault};
-use graph_show::graph_lang::{FaultKind, Graph, GraphFault, SampleTexts, read_graph};
-use graph_show::watched_io::Files;
+use graph_lang::{FaultKind, Graph, GraphFault, SampleTexts, read_graph};
 use std::alloc::Global;
-use stream_eval::stream_lists::{Job, JobRefusal};
+use stream_lists::{Job, JobRefusal};
+use watched_io::Files;
 
 /// Makes the job of a graph's file: reads the graph, of at most `GRAPH_MAX` bytes, then the samples
 /// of each source in the order of the lines, live or not, each read and checked before the next.

@@ -5,16 +5,16 @@ ghost use Rattle.std.specs.Io.KnownBytes.{Appends};
 ghost use Rattle.stream_eval.specs.Results.{sink_output};
 ghost use Rattle.graph_commands.specs.OutputTexts.{heading_text, sink_text, text_of, value_text};
 ghost use Rattle.graph_commands.specs.Puts.{PutsBytes};
-ghost use Rattle.graph_show.specs.watched_io.Prefix.{AppendsPrefix};
-ghost use Rattle.graph_show.specs.watched_io.Watched.{has_failed_of, inner_of};
+ghost use Rattle.watched_io.specs.Prefix.{AppendsPrefix};
+ghost use Rattle.watched_io.specs.Watched.{has_failed_of, inner_of};
 
 use crate::output_buffer::OutputBuffer;
 use crate::value_texts::ValueTexts;
-use graph_show::graph_base::{Graph, Place};
-use graph_show::watched_io::{Watched, WriteFailed};
+use graph_base::{Graph, Place};
 use itoa::Buffer;
 use std::io::Write;
 use stream_eval::Lines;
+use watched_io::{Watched, WriteFailed};
 
 /// Writes the values of each sink: its name, ` from ` and its start where it has one, a space and
 /// the count of its values, and then each value, each on a line of its own.

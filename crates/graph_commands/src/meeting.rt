@@ -1,15 +1,15 @@
 //! Where tasks meet.
 ghost use Rattle.std.specs.Prelude.{◌<◌, ◌≤◌, length, IfSome};
 ghost use Rattle.std.specs.List.{All};
-ghost use Rattle.graph_show.specs.graph_lang.declared.sample.TheConstants.{TEXT_MAX};
+ghost use Rattle.graph_lang.specs.declared.sample.TheConstants.{TEXT_MAX};
 
 use crate::sources::read_sources;
+use graph_base::{Graph, Place};
+use graph_lang::{FaultKind, GraphFault, OneThread, read_graph};
 use graph_show::MeetingPlace;
-use graph_show::graph_base::{Graph, Place};
-use graph_show::graph_lang::{FaultKind, GraphFault, OneThread, read_graph};
-use graph_show::watched_io::Files;
 use std::alloc::{AllocError, Global};
-use stream_eval::stream_lists::{Meeting, meeting_on};
+use stream_lists::{Meeting, meeting_on};
+use watched_io::Files;
 
 /// Where a task meets one of an earlier line, as `MeetingPlace` tells it.
 #[derive(Drop)]

@@ -1,6 +1,6 @@
 //! Which tasks signal a phaser, and which take from it.
 
-use graph_show::graph_base::{Graph, Kind, TaskLine};
+use graph_base::{Graph, Kind, TaskLine};
 
 /// Whether a task signals phaser number `p`.
 pub(crate) fn signals(task: &TaskLine, p: usize) -> bool {

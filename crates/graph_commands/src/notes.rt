@@ -2,10 +2,10 @@
 
 use crate::members::{is_signalled, is_taken, signals};
 use crate::rates::put_rates;
-use graph_show::graph_base::{Graph, Place, TaskLine};
+use graph_base::{Graph, Place, TaskLine};
 use itoa::Buffer;
 use std::alloc::{AllocError, Global};
-use stream_eval::stream_lists::Job;
+use stream_lists::Job;
 
 /// A phaser, and how many phases its list has; or a source, and the phase at which it ends.
 #[derive(Clone, Copy)]

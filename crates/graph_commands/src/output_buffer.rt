@@ -4,14 +4,14 @@ ghost use Rattle.std.specs.Io.KnownBytes.{Appends};
 ghost use Rattle.std.specs.List.{flat_map};
 ghost use Rattle.graph_commands.specs.Puts.{PutsBytes};
 ghost use Rattle.graph_commands.specs.OutputTexts.{value_text};
-ghost use Rattle.graph_show.specs.watched_io.declared.text.TheConstants.{CHUNK_MAX};
-ghost use Rattle.graph_show.specs.watched_io.Prefix.{AppendsPrefix};
-ghost use Rattle.graph_show.specs.watched_io.Watched.{has_failed_of, inner_of};
+ghost use Rattle.watched_io.specs.declared.text.TheConstants.{CHUNK_MAX};
+ghost use Rattle.watched_io.specs.Prefix.{AppendsPrefix};
+ghost use Rattle.watched_io.specs.Watched.{has_failed_of, inner_of};
 
-use graph_show::watched_io::{CHUNK_MAX, Watched, WriteFailed};
 use itoa::write_digits;
 use std::io::Write;
 use std::marker::Model;
+use watched_io::{CHUNK_MAX, Watched, WriteFailed};
 
 /// Room for a number, its sign and the end of its line, in bytes.
 const LINE_ROOM: usize = 22;

@@ -6,7 +6,7 @@
 
 use crate::members::{signals, takes};
 use crate::rate::Rate;
-use graph_show::graph_base::{Graph, Kind, Place, TaskLine};
+use graph_base::{Graph, Kind, Place, TaskLine};
 use itoa::Buffer;
 use std::alloc::{AllocError, Global};
 

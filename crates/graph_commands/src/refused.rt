@@ -2,10 +2,10 @@
 ghost use Rattle.std.specs.Prelude.{◌≡◌, ◌≤◌, ℕ, List, length, IfOk};
 
 use crate::folders::{LooksBeside, path_beside};
-use graph_show::watched_io::{DiskFiles, FileFault, Files};
 use std::alloc::{AllocError, Global};
 use std::fs::File;
 use std::io::ErrorKind;
+use watched_io::{DiskFiles, FileFault, Files};
 
 /// Why a file was refused, as far as the system tells. It is said to a person, and nothing is
 /// proved of it.
@@ -19,6 +19,12 @@ pub enum FileRefusal {
     NotAllowed,
     /// It has more bytes than this limit.
     TooLong(usize),
+    /// It is standard input, which is the graph already.
+    GraphInput,
+    /// It is standard input, which has the samples of another source already.
+    SourceInput,
+    /// It is a sink, and so many values of another wait for its next one: nothing more is read.
+    Awaited(usize),
     /// It could not be opened, or a read failed, for another reason.
     Other,
 }
@@ -42,12 +48,15 @@ enum Origin {
 }
 
 /// The files of the disk, as `DiskFiles` reads them, with standard input as the one of the name
-/// `-`, and why one was refused.
+/// `-`, once, and why one was refused. The first file that is read is the graph's.
 #[derive(Drop)]
 pub struct TellingFiles<'a, R> {
     rt: &'a R,
     files: DiskFiles<'a, R>,
     origin: Origin,
+    has_graph: bool,
+    /// Why standard input is refused from now on, where it was read.
+    input: Option<FileRefusal>,
     refused: Option<(String, FileRefusal)>,
 }
 
@@ -60,8 +69,29 @@ impl<'a, R> TellingFiles<'a, R> {
             rt,
             files: DiskFiles::new(rt),
             origin: Origin::Here,
+            has_graph: false,
+            input: None,
             refused: None,
         }
+    }
+
+    /// Why standard input is refused, where it was read before; from now on it is.
+    fn take_input(&mut self) -> Option<FileRefusal> {
+        let before = self.input;
+        if before.is_none() && self.has_graph {
+            self.input = Some(FileRefusal::SourceInput);
+        } else if before.is_none() {
+            self.input = Some(FileRefusal::GraphInput);
+        }
+        before
+    }
+
+    /// Notes why a file was refused, where there is memory for its name.
+    fn refuse(&mut self, alloc: Global, name: &str, why: FileRefusal) {
+        self.refused = match String::from_str(alloc, name) {
+            Ok(name) => Some((name, why)),
+            Err(_) => None,
+        };
     }
 
     /// The name under which a file is opened, where it is another than its own.
@@ -118,13 +148,17 @@ impl<R: std::rt::Files> Files for TellingFiles<'_, R> {
             return Err(FileFault::OutOfMemory);
         };
         let name = path.as_deref().unwrap_or(name);
+        if name == "-" {
+            if let Some(why) = self.take_input() {
+                self.refuse(alloc, name, why);
+                return Err(FileFault::ReadFault);
+            }
+        }
+        self.has_graph = true;
         let read = self.files.read(alloc, opened_as(name), limit);
         if let Err(FileFault::ReadFault) = &read {
             let why = why_refused(self.rt, opened_as(name), limit);
-            self.refused = match String::from_str(alloc, name) {
-                Ok(name) => Some((name, why)),
-                Err(_) => None,
-            };
+            self.refuse(alloc, name, why);
         }
         read
     }

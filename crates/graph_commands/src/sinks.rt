@@ -1,16 +1,16 @@
 //! The sink that is asked for by its name.
 ghost use Rattle.std.specs.Prelude.{◌≡◌, ◌<◌, length, map, ◌&&◌};
 ghost use Rattle.stream_eval.specs.Results.{sink_output};
-ghost use Rattle.stream_eval.specs.stream_lists.Lists.{is_sink_at};
-ghost use Rattle.graph_show.specs.graph_base.Graphs.{name_at};
-ghost use Rattle.graph_show.specs.graph_base.declared.place.Place.TheVariants as place;
+ghost use Rattle.stream_lists.specs.Lists.{is_sink_at};
+ghost use Rattle.graph_base.specs.Graphs.{name_at};
+ghost use Rattle.graph_base.specs.declared.place.Place.TheVariants as place;
 ghost use Rattle.std.specs.Str.{bytes_eq};
 ghost use Rattle.graph_commands.specs.GraphRuns.{sink_named};
 ghost use Rattle.graph_commands.specs.OutputTexts.{values_of_sink};
 
-use graph_show::graph_base::Place;
+use graph_base::Place;
 use stream_eval::Lines;
-use stream_eval::stream_lists::Job;
+use stream_lists::Job;
 
 /// The number of the sink of this name, where a job has one. It takes no memory.
 pub fn find_sink(job: &Job, name: &str) -> Option<usize>

@@ -1,19 +1,19 @@
 //! The samples of the sources of a graph.
 ghost use Rattle.std.specs.Prelude.{◌≡◌, ◌<◌, ◌≤◌, ℕ, List, length, true, IfOk, IfErr};
 ghost use Rattle.std.specs.List.{All};
-ghost use Rattle.graph_show.specs.phase_accum.Sends.{AreSends};
-ghost use Rattle.graph_show.specs.graph_lang.Samples.{AreSamplesOf, IsBadShortSample};
-ghost use Rattle.graph_show.specs.graph_lang.declared.sample.TheConstants.{TEXT_MAX};
-ghost use Rattle.graph_show.specs.graph_base.Graphs.{source_number, sources_of};
-ghost use Rattle.graph_show.specs.watched_io.Files.{HasBytes};
-ghost use Rattle.stream_eval.specs.stream_lists.JobFields.{items_of};
+ghost use Rattle.phase_accum.specs.Sends.{AreSends};
+ghost use Rattle.graph_lang.specs.Samples.{AreSamplesOf, IsBadShortSample};
+ghost use Rattle.graph_lang.specs.declared.sample.TheConstants.{TEXT_MAX};
+ghost use Rattle.graph_base.specs.Graphs.{source_number, sources_of};
+ghost use Rattle.watched_io.specs.Files.{HasBytes};
+ghost use Rattle.stream_lists.specs.JobFields.{items_of};
 ghost use Rattle.graph_commands.specs.FileJobs.{AreFirstSamples, AreSamples, Explains, IsGraphOf, IsReached, Known, file_of};
 
 use crate::JobFault;
 use crate::records::record_told;
-use graph_show::graph_lang::{Graph, Place, SampleFault, SampleTexts, TEXT_MAX};
-use graph_show::watched_io::Files;
+use graph_lang::{Graph, Place, SampleFault, SampleTexts, TEXT_MAX};
 use std::alloc::Global;
+use watched_io::Files;
 
 /// Why task number `t`, which is source number `source`, has no samples, where this record of its
 /// file's text is none.

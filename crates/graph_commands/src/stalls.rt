@@ -2,10 +2,10 @@
 ghost use Rattle.graph_commands.specs.Explained.{AreFurtherLines};
 
 use crate::further::further_lines;
+use graph_base::Place;
 use itoa::Buffer;
 use std::alloc::{AllocError, Global};
-use stream_eval::stream_lists::graph_base::Place;
-use stream_eval::stream_lists::{Job, NextCall, Stand};
+use stream_lists::{Job, NextCall, Stand};
 
 /// The name of a task.
 fn task_name(job: &Job, t: usize) -> &str {

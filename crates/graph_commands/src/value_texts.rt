@@ -4,13 +4,13 @@ ghost use Rattle.std.specs.Io.KnownBytes.{Appends};
 ghost use Rattle.std.specs.List.{flat_map};
 ghost use Rattle.graph_commands.specs.OutputTexts.{value_text};
 ghost use Rattle.graph_commands.specs.Puts.{PutsBytes, bytes_of};
-ghost use Rattle.graph_show.specs.watched_io.Prefix.{AppendsPrefix};
-ghost use Rattle.graph_show.specs.watched_io.Watched.{has_failed_of, inner_of};
+ghost use Rattle.watched_io.specs.Prefix.{AppendsPrefix};
+ghost use Rattle.watched_io.specs.Watched.{has_failed_of, inner_of};
 
 use crate::output_buffer::OutputBuffer;
-use graph_show::graph_lang::OneThread;
-use graph_show::watched_io::{Watched, WriteFailed};
+use graph_lang::OneThread;
 use std::io::Write;
+use watched_io::{Watched, WriteFailed};
 
 /// How many values are made text at a time.
 const ROUND: usize = 1_048_576;

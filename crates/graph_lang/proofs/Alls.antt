@@ -4,7 +4,7 @@ use Rattle.std.specs.List.{list_all, list_any}
 use Rattle.std.proofs.Math.Seq.{take-length}
 use Rattle.std.proofs.lemmas.List.{drop_all, take_more, map-append}
 use Rattle.std.proofs.lemmas.Bool.{and_parts}
-use Rattle.graph_text.specs.phase_base.Words.{Word}
+use Rattle.phase_base.specs.Words.{Word}
 use Rattle.graph_text.specs.Plain.{plain}
 
 pub is_some-if : {A : Type 0} (b : Bool) (x : A) → is_some (if b then Some x else None) ≡ b

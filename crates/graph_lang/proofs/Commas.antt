@@ -13,7 +13,7 @@ use Rattle.csv.specs.declared.parser.State.TheVariants as st
 use Rattle.csv.specs.declared.parser.Action.{Action}
 use Rattle.csv.specs.declared.parser.Action.TheVariants as act
 use Rattle.csv.proofs.ReadFacts.{reached-more}
-use Rattle.graph_base.specs.phase_accum.Sends.{AreSends, IsSend}
+use Rattle.phase_accum.specs.Sends.{AreSends, IsSend}
 use Rattle.graph_lang.specs.TextInside.{EndsWithComma, IsThroughComma}
 use Rattle.graph_lang.specs.Samples.{AreRecordsOfValues, IsBadSample, row_of}
 use Rattle.graph_lang.proofs.Digits.{looks_decimal}

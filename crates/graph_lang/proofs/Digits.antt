@@ -7,9 +7,9 @@ use Rattle.std.proofs.lemmas.List.{length-take-le}
 use Rattle.std.proofs.lemmas.Str.Parse.{numerals_by_value, tells_digits}
 use Rattle.std.proofs.lemmas.Fmt.{decimal-digits_value, decimal_is_IsNumeral, first_decimal, length-decimal-le, decimal_digit}
 use Rattle.std.proofs.Math.Nat.{pow-le-pow_right}
-use Rattle.graph_text.specs.phase_base.Numbers.{int_within}
-use Rattle.graph_base.specs.phase_accum.Sends.{value_max, IsSend}
-use Rattle.graph_base.proofs.phase_accum_lemmas.phase_base_lemmas.Numbers.{int_found, int_only}
+use Rattle.phase_base.specs.Numbers.{int_within}
+use Rattle.phase_accum.specs.Sends.{value_max, IsSend}
+use Rattle.phase_base.proofs.Numbers.{int_found, int_only}
 
 -- the number of at most 18 digits is below 10 ^ 18
 pub few_digits : (bs : List ℕ) (i : ℕ) → i < length bs → i ≤ 18 → AllDigits 10 (take i bs) → digits_value 10 (take i bs) < 10 ^ 18

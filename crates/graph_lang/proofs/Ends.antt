@@ -3,10 +3,10 @@ use Rattle.std.proofs.Common.{ℕ, ℤ, List, option_map, ◌≡◌, Bool, Optio
 use Rattle.graph_base.specs.Graphs.{Named}
 use Rattle.graph_base.specs.declared.line.Kind.{Kind}
 use Rattle.graph_base.specs.declared.line.Parent.{Parent}
-use Rattle.graph_text.specs.phase_base.Numbers.{is_nat, nat_value}
+use Rattle.phase_base.specs.Numbers.{is_nat, nat_value}
 use Rattle.graph_text.specs.Decls.{EndWords, BodyWords, IsBy, AreEnds, MayHaveBy, may_have_blocks}
 use Rattle.graph_text.specs.declared.version.Version.{Version}
-use Rattle.graph_base.specs.stream_filters.declared.form.Form.{Form}
+use Rattle.stream_filters.specs.declared.form.Form.{Form}
 use Rattle.graph_lang.specs.WordValues.{inputs_of, outputs_of, task_line, kind_of_body, phaser_numbers, parent_of, taps_of, filter_form, factor_of, every_of, block_of, joins_now}
 use Rattle.graph_lang.proofs.Grown.{weaken_some}
 

@@ -2,7 +2,7 @@
 use Rattle.std.proofs.Common.{ℕ, ◌≡◌, List, [], ◌∷◌, length, sym, ◌∙◌, arith, ap, Option, Some, None, IfSome, IfNone, ℤ}
 use Rattle.std.specs.Fmt.{signed_decimal}
 use Rattle.csv.specs.Records.{field_at}
-use Rattle.graph_base.specs.phase_accum.Sends.{IsSend}
+use Rattle.phase_accum.specs.Sends.{IsSend}
 
 pub only_field : (fs : List (List ℕ)) (f : List ℕ) → length fs ≡ 1 → Some f ≡ field_at fs 0 → fs ≡ f ∷ []
 unfolding field_at

@@ -1,6 +1,6 @@
 -- The heading of a text.
 use Rattle.std.proofs.Common.{◌≡◌, ℕ, List, [], ◌∷◌, Bool, true, false, if◌then◌else◌, Some, None, is_some, bytes_eq, codes, ◌&&◌, ap, refl}
-use Rattle.graph_text.specs.phase_base.Words.{Word}
+use Rattle.phase_base.specs.Words.{Word}
 use Rattle.graph_text.specs.Texts.{words_of_line, is_ignored}
 use Rattle.graph_text.specs.Versions.{heading_of}
 use Rattle.graph_text.specs.declared.version.Version.TheVariants.{One, Two, Three}

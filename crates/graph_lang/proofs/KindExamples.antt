@@ -1,7 +1,7 @@
 -- Lines with two faults, computed in the definitions: the earlier kind is the one that is told.
 use Rattle.std.proofs.Common.{◌≡◌, [], ◌∷◌, true, false, Some, None, refl, codes}
-use Rattle.graph_text.specs.phase_base.declared.operation.Op.TheVariants.{Sum}
-use Rattle.graph_text.specs.phase_base.Words.{Word}
+use Rattle.phase_base.specs.declared.operation.Op.TheVariants.{Sum}
+use Rattle.phase_base.specs.Words.{Word}
 use Rattle.graph_text.specs.Decls.{phaser, task, source, fir, decimate, join, peer, sink, clamp, EndWords}
 use Rattle.graph_base.specs.Graphs.{Graph, no_phaser, no_task}
 use Rattle.graph_base.specs.declared.line.Kind.TheVariants.{Split, Decimate, Sink}

@@ -17,5 +17,3 @@ mod Fields
 pub mod PlainLines
 mod Shrinks
 pub mod Unique
-pub use Rattle.graph_base.proofs as graph_base_lemmas
-pub use Rattle.watched_io.proofs as watched_io_lemmas

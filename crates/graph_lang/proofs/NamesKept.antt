@@ -3,7 +3,7 @@ use Rattle.std.proofs.Common.{◌≡◌, ◌⊎◌, inl, inr, List, [], ◌∷�
 use Rattle.std.proofs.lemmas.List.Elements.{All-head, All-tail, All-push, All-weaker}
 use Rattle.std.proofs.lemmas.Slice.Eq.{bytes_eq-Decides}
 use Rattle.std.proofs.lemmas.Option.{same_Some}
-use Rattle.graph_text.specs.phase_base.Words.{Word, is_name}
+use Rattle.phase_base.specs.Words.{Word, is_name}
 use Rattle.graph_base.specs.Graphs.{Graph, Named, IsPlace, is_same_place, name_among}
 use Rattle.graph_base.specs.Names.{place_of}
 use Rattle.graph_base.specs.TaskLines.{AreNames}

@@ -8,19 +8,19 @@ use Rattle.std.proofs.lemmas.List.Elements.{All-cons, All-nil, All-weaker, All-m
 use Rattle.std.proofs.lemmas.List.Sums.{AllPass-from_list_all}
 use Rattle.std.proofs.lemmas.List.Folds.{list_all-append}
 use Rattle.std.proofs.lemmas.Slice.Eq.{bytes_eq-Decides}
-use Rattle.graph_text.specs.phase_base.Words.{Word}
-use Rattle.graph_text.specs.phase_base.declared.limits.TheConstants.{BOUND_MAX}
-use Rattle.graph_text.specs.phase_base.Numbers.{is_nat, nat_value, int_value}
+use Rattle.phase_base.specs.Words.{Word}
+use Rattle.phase_base.specs.declared.limits.TheConstants.{BOUND_MAX}
+use Rattle.phase_base.specs.Numbers.{is_nat, nat_value, int_value}
 use Rattle.graph_text.specs.Decls.{task, BodyWords, source, fir, delay, decimate, split, join, peer, sink, ByWords, EndWords, IsBody, IsBy, AreEnds, MayHaveBy, may_have_parent, may_join_now, may_have_blocks}
 use Rattle.graph_text.specs.declared.version.Version.{Version}
 use Rattle.graph_text.specs.declared.version.Version.TheVariants.{Three}
-use Rattle.graph_base.specs.stream_filters.declared.fir.TheConstants.{DELAY_MAX, PLUS_MAX, TAPS_MAX, TAP_MAX, SHIFT_MAX}
+use Rattle.stream_filters.specs.declared.fir.TheConstants.{DELAY_MAX, PLUS_MAX, TAPS_MAX, TAP_MAX, SHIFT_MAX}
 use Rattle.graph_base.specs.Graphs.{Graph, Task, Named, IsPlace, task_at, phaser_at}
 use Rattle.graph_base.specs.Names.{place_of, phaser_number, task_number, phaser_named, task_named}
 use Rattle.graph_lang.specs.WordValues.{or_zero, phaser_numbers, parent_of, task_line, kind_of_body, inputs_of, outputs_of, taps_of, plus_of, filter_form, factor_of, every_of, block_of, joins_now}
 use Rattle.graph_lang.specs.Faults.{kind_of, is_body_within, are_ends_within, is_count_within, is_tap_within, is_plus_within, phasers_of, are_distinct, is_phaser, is_parent_known, is_in_order, is_exchange_below, may_be_parent, is_number_in, holds_for, is_plain, is_held, is_bound_within, is_within_bound, is_block_within}
 use Rattle.graph_base.specs.TaskLines.{IsGraph, IsTaskLine, IsParent, AreNames, HasEnds, HasTaps, HasFactor, HasEvery, IsExchangeBelow, has_children, has_blocks, AreAmong}
-use Rattle.graph_text.specs.phase_base.Lists.{is_distinct}
+use Rattle.phase_base.specs.Lists.{is_distinct}
 use Rattle.graph_base.specs.declared.limits.TheConstants.{TASKS_MAX, ENDS_MAX, STEPS_MAX, FACTOR_MAX, EVERY_MAX}
 use Rattle.graph_base.specs.declared.line.Kind.{Kind}
 use Rattle.graph_base.specs.declared.line.Kind.TheVariants as kind

@@ -11,7 +11,7 @@ use Rattle.csv.specs.declared.parser.State.{State}
 use Rattle.csv.specs.declared.parser.State.TheVariants as st
 use Rattle.csv.specs.declared.parser.Action.TheVariants as act
 use Rattle.csv.proofs.ReadFacts.{run-copies, not-first}
-use Rattle.graph_base.specs.phase_accum.Sends.{AreSends, IsSend, value_max}
+use Rattle.phase_accum.specs.Sends.{AreSends, IsSend, value_max}
 use Rattle.graph_lang.specs.TextInside.{EndsLine, BeginsWithCount, BeginsWithLine, BeginsWithWord}
 use Rattle.graph_lang.specs.PlainLines.{Leads}
 use Rattle.graph_lang.specs.Samples.{AreRecordsOfValues, row_of}

@@ -1,9 +1,9 @@
 -- Lines that are read, one after another.
 use Rattle.std.proofs.Common.{ℕ, ◌≡◌, ◌<◌, ◌≤◌, ◌+◌, List, ◌∷◌, Bor, length, map, drop, get_or, refl, ap, sym, ◌∙◌, Result, Ok, Err, Bool, true, false, Option, Some, None, is_some, if◌then◌else◌, [], inl, inr, subst}
 use Rattle.std.proofs.lemmas.List.{drop_all}
-use Rattle.graph_text.specs.phase_base.Words.{Word}
+use Rattle.phase_base.specs.Words.{Word}
 use Rattle.graph_text.specs.Texts.{words_of_line, are_printable, is_ignored}
-use Rattle.graph_text.specs.phase_base.Lists.{without_cr}
+use Rattle.phase_base.specs.Lists.{without_cr}
 use Rattle.graph_text.specs.Plain.{plain}
 use Rattle.graph_text.specs.Decls.{Decl, Declares, Spells}
 use Rattle.graph_text.specs.Versions.{heading_of}

@@ -1,10 +1,10 @@
 -- What holds of a line that has no fault.
 use Rattle.std.proofs.Common.{ℕ, List, ◌<◌, ◌≤◌, arith, [], ◌∷◌, ◌++◌, ap, sym, ◌∙◌, ◌≡◌, ◌&&◌, ◌||◌, Bool, true, false, not, Option, Some, None, is_some, if◌then◌else◌, refl, nat_lt, length}
 use Rattle.std.specs.List.{list_all}
-use Rattle.graph_text.specs.phase_base.Lists.{first_row}
+use Rattle.phase_base.specs.Lists.{first_row}
 use Rattle.std.proofs.lemmas.Bool.Decides.{nat_tests}
-use Rattle.graph_text.specs.phase_base.Words.{Word}
-use Rattle.graph_text.specs.phase_base.declared.operation.Op.{Op}
+use Rattle.phase_base.specs.Words.{Word}
+use Rattle.phase_base.specs.declared.operation.Op.{Op}
 use Rattle.graph_text.specs.Decls.{phaser, task, FunctionWords, BodyWords, ByWords, EndWords}
 use Rattle.graph_base.specs.Graphs.{Graph, Task}
 use Rattle.graph_base.specs.Names.{place_of}

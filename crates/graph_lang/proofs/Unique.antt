@@ -9,7 +9,7 @@ use Rattle.csv.specs.Machine.{Read, next_record}
 use Rattle.csv.specs.Reading.{AreRecords, Reached}
 use Rattle.csv.specs.declared.parser.Config.{Config}
 use Rattle.csv.specs.declared.parser.State.{State}
-use Rattle.graph_base.specs.phase_accum.Sends.{IsSend, AreSends}
+use Rattle.phase_accum.specs.Sends.{IsSend, AreSends}
 use Rattle.graph_lang.specs.Samples.{row_of}
 
 row_same : (a b : List ℕ) → a ∷ [] ≡ b ∷ [] → a ≡ b

@@ -6,12 +6,12 @@ use Rattle.std.proofs.lemmas.Bool.{cases_lt, not-false, and_parts}
 use Rattle.std.proofs.lemmas.List.{get_or_append_left, length_push, length-append}
 use Rattle.std.proofs.lemmas.List.Elements.{All-nil, All-cons, All-append}
 use Rattle.std.proofs.lemmas.List.Sums.{sum_by_push}
-use Rattle.graph_text.specs.phase_base.declared.limits.TheConstants.{BOUND_MAX}
-use Rattle.graph_base.specs.phase_accum.Sends.{value_max}
-use Rattle.graph_base.specs.phase_accum.Singles.{CanBeNamed}
-use Rattle.graph_text.specs.phase_base.Words.{Word, is_name, is_file}
-use Rattle.graph_text.specs.phase_base.Numbers.{nat_value, int_value}
-use Rattle.graph_text.specs.phase_base.declared.operation.Op.{Op}
+use Rattle.phase_base.specs.declared.limits.TheConstants.{BOUND_MAX}
+use Rattle.phase_accum.specs.Sends.{value_max}
+use Rattle.phase_accum.specs.Singles.{CanBeNamed}
+use Rattle.phase_base.specs.Words.{Word, is_name, is_file}
+use Rattle.phase_base.specs.Numbers.{nat_value, int_value}
+use Rattle.phase_base.specs.declared.operation.Op.{Op}
 use Rattle.graph_text.specs.Decls.{Decl, phaser, task, FunctionWords, neg, abs, halve, clamp, BodyWords, source, fir, delay, decimate, split, join, peer, sink, EndWords, IsBody, IsWellFormed, IsWellFormedBy}
 use Rattle.graph_text.specs.declared.version.Version.{Version}
 use Rattle.graph_text.specs.declared.version.Version.TheVariants.{Three}

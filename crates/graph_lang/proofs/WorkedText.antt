@@ -1,7 +1,7 @@
 -- Worked texts: the lines of each declare the graph that is written out here, which so is well
 -- formed; and a heading on the second line is a fault.
 use Rattle.std.proofs.Common.{ℕ, ◌≡◌, true, false, inl, sym, ap, List, [], ◌∷◌, Some, None, Ok, Err, ◌∙◌, codes, inr, refl, pos, negsuc}
-use Rattle.graph_base.specs.phase_accum.declared.single.Single.TheVariants.{Clamp}
+use Rattle.phase_accum.specs.declared.single.Single.TheVariants.{Clamp}
 use Rattle.graph_text.specs.Texts.{is_ignored}
 use Rattle.graph_text.specs.Decls.{Decl, phaser, task, clamp, source, sink, Declares}
 use Rattle.graph_text.specs.WordReading.{decl_at, decl_by, task_words_at, body_at, word_at}
@@ -9,7 +9,7 @@ use Rattle.graph_text.specs.Versions.{may_declare}
 use Rattle.graph_text.specs.declared.version.Version.{Version}
 use Rattle.graph_text.specs.declared.version.Version.TheVariants.{One, Two}
 use Rattle.graph_text.proofs.Spelled.{line_again}
-use Rattle.graph_text.specs.phase_base.declared.operation.Op.TheVariants.{Sum, Least}
+use Rattle.phase_base.specs.declared.operation.Op.TheVariants.{Sum, Least}
 use Rattle.graph_base.specs.declared.line.Kind.TheVariants.{Source, Sink}
 use Rattle.graph_base.specs.declared.place.Place.TheVariants as place
 use Rattle.graph_base.specs.Graphs.{Graph, no_graph, no_task}

@@ -1,14 +1,14 @@
 -- The kinds of fault of a line that is in the grammar, and their order.
 use Rattle.std.specs.Prelude.{ℕ, ◌==◌, Bool, true, false, ◌&&◌, ◌||◌, not, nat_lt, nat_le, List, [], ◌∷◌, ◌++◌, length, get_or, Option, Some, None, is_some, unsigned_abs}
-use Rattle.graph_text.specs.phase_base.Lists.{first_row}
+use Rattle.phase_base.specs.Lists.{first_row}
 use Rattle.std.specs.List.{list_all, list_any}
 use Rattle.std.specs.Option.{option_map_or}
 use Rattle.std.specs.Int.Signed.{le_z}
 use Rattle.std.specs.Str.{bytes_eq}
-use Rattle.graph_text.specs.phase_base.declared.limits.TheConstants.{BOUND_MAX}
-use Rattle.graph_base.specs.phase_accum.Sends.{value_max}
-use Rattle.graph_text.specs.phase_base.Words.{Word}
-use Rattle.graph_text.specs.phase_base.Numbers.{nat_value, int_value}
+use Rattle.phase_base.specs.declared.limits.TheConstants.{BOUND_MAX}
+use Rattle.phase_accum.specs.Sends.{value_max}
+use Rattle.phase_base.specs.Words.{Word}
+use Rattle.phase_base.specs.Numbers.{nat_value, int_value}
 use Rattle.graph_text.specs.Decls.{Decl, phaser, task, FunctionWords, neg, abs, halve, clamp, ByWords, EndWords, BodyWords, source, fir, delay, decimate, split, join, peer, sink}
 use Rattle.graph_base.specs.Graphs.{Graph, Task, Named, task_at, phaser_at}
 use Rattle.graph_base.specs.Names.{place_of, phaser_named, task_named}
@@ -20,7 +20,7 @@ use Rattle.graph_base.specs.declared.line.Kind.TheVariants as kind
 use Rattle.graph_base.specs.declared.line.Parent.{Parent}
 use Rattle.graph_lang.specs.declared.fault.FaultKind.{FaultKind}
 use Rattle.graph_lang.specs.declared.fault.FaultKind.TheVariants.{Limit, Twice, Unknown, OutBeforeIn, BadParent, NotHeld, OverBound}
-use Rattle.graph_base.specs.stream_filters.declared.fir.TheConstants.{DELAY_MAX, PLUS_MAX, TAPS_MAX, TAP_MAX, SHIFT_MAX}
+use Rattle.stream_filters.specs.declared.fir.TheConstants.{DELAY_MAX, PLUS_MAX, TAPS_MAX, TAP_MAX, SHIFT_MAX}
 
 -- ---- limits
 

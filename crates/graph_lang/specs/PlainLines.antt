@@ -2,7 +2,7 @@
 use Rattle.std.specs.Prelude.{ℕ, ℤ, ◌≡◌, ◌<◌, ◌≤◌, ◌-◌, ◌++◌, List, length, map, drop}
 use Rattle.csv.specs.Reading.{default_config, strip_bom, AreRecords}
 use Rattle.csv.specs.declared.parser.State.TheVariants as st
-use Rattle.graph_base.specs.phase_accum.Sends.{AreSends}
+use Rattle.phase_accum.specs.Sends.{AreSends}
 use Rattle.graph_lang.specs.Samples.{row_of}
 
 -- with these values in front, the values of the rest are those of the text

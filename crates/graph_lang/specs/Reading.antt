@@ -1,13 +1,13 @@
 -- What the code keeps while it reads a graph: the numbers of a line, and what a line comes to.
 use Rattle.std.specs.Prelude.{◌≡◌, option_map, ℕ, not, List, [], ◌∷◌, Option, Some, None, is_some, Result, Ok, Err, if◌then◌else◌}
-use Rattle.graph_text.specs.phase_base.Numbers.{nat_value}
+use Rattle.phase_base.specs.Numbers.{nat_value}
 use Rattle.graph_text.specs.Decls.{BodyWords, EndWords, Decl}
 use Rattle.graph_text.specs.Texts.{words_of_line, is_ignored}
 use Rattle.graph_text.specs.Versions.{heading_of}
 use Rattle.graph_text.specs.declared.version.Version.{Version}
 use Rattle.graph_text.specs.declared.version.Version.TheVariants.{One}
-use Rattle.graph_text.specs.phase_base.Words.{Word}
-use Rattle.graph_text.specs.phase_base.Lists.{first_row}
+use Rattle.phase_base.specs.Words.{Word}
+use Rattle.phase_base.specs.Lists.{first_row}
 use Rattle.graph_base.specs.Graphs.{Graph, Task}
 use Rattle.graph_lang.specs.WordValues.{taps_of, filter_form, factor_of, every_of, block_of}
 use Rattle.graph_lang.specs.declared.within.Numbers.{Numbers}

@@ -2,7 +2,7 @@
 -- it begins with.
 use Rattle.std.specs.Prelude.{ℕ, ℤ, ◌≤◌, ◌≡◌, ◌<◌, List, length, drop, ◌⊎◌, [], ◌∷◌, ◌++◌}
 use Rattle.std.specs.Fmt.{decimal, signed_decimal}
-use Rattle.graph_base.specs.phase_accum.Sends.{IsSend, value_max}
+use Rattle.phase_accum.specs.Sends.{IsSend, value_max}
 
 -- the part is up to a comma and with it
 pub record EndsWithComma (text part : List ℕ) : Type 0 where

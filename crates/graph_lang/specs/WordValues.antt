@@ -1,19 +1,19 @@
 -- What the words of a line stand for, after the lines above it.
 use Rattle.std.specs.Prelude.{ℕ, Bool, false, List, [], ◌∷◌, map, Option, Some, None, option_map, ℤ, pos}
-use Rattle.graph_base.specs.phase_accum.declared.single.Single.{Single}
-use Rattle.graph_base.specs.phase_accum.declared.single.Single.TheVariants.{Neg, Abs, Halve, Clamp}
-use Rattle.graph_text.specs.phase_base.Words.{Word}
-use Rattle.graph_text.specs.phase_base.Numbers.{nat_value, int_value}
+use Rattle.phase_accum.specs.declared.single.Single.{Single}
+use Rattle.phase_accum.specs.declared.single.Single.TheVariants.{Neg, Abs, Halve, Clamp}
+use Rattle.phase_base.specs.Words.{Word}
+use Rattle.phase_base.specs.Numbers.{nat_value, int_value}
 use Rattle.graph_text.specs.Decls.{FunctionWords, neg, abs, halve, clamp, ByWords, EndWords, BodyWords, source, fir, delay, decimate, split, join, peer, sink}
 use Rattle.graph_base.specs.Graphs.{Task, Named}
 use Rattle.graph_base.specs.Names.{phaser_named, task_named}
-use Rattle.graph_text.specs.phase_base.declared.operation.Op.{Op}
+use Rattle.phase_base.specs.declared.operation.Op.{Op}
 use Rattle.graph_base.specs.declared.line.Kind.{Kind}
 use Rattle.graph_base.specs.declared.line.Kind.TheVariants as kind
 use Rattle.graph_base.specs.declared.line.Parent.{Parent}
 use Rattle.graph_base.specs.declared.line.PhaserLine.{PhaserLine}
-use Rattle.graph_base.specs.stream_filters.Filter.{no_form}
-use Rattle.graph_base.specs.stream_filters.declared.form.Form.{Form}
+use Rattle.stream_filters.specs.Filter.{no_form}
+use Rattle.stream_filters.specs.declared.form.Form.{Form}
 
 -- the number that is there, or 0
 abbrev pub or_zero : Option ℕ → ℕ

@@ -2,8 +2,8 @@
 ghost use Rattle.std.specs.Prelude.{◌≡◌, ◌++◌, ◌∷◌, [], IsTrue, IfOk, IfSome, OnOk, None, length, true, is_some, ◌&&◌};
 ghost use Rattle.std.specs.Option.{option_map_or};
 ghost use Rattle.std.specs.List.{list_all};
-ghost use Rattle.graph_text.specs.phase_base.Numbers.{is_nat};
-ghost use Rattle.graph_text.specs.phase_base.Words.{is_name, is_file};
+ghost use Rattle.phase_base.specs.Numbers.{is_nat};
+ghost use Rattle.phase_base.specs.Words.{is_name, is_file};
 ghost use Rattle.graph_text.specs.Decls.{IsBody, IsBy};
 ghost use Rattle.graph_text.specs.Lines.{body_of, ends_of, by_of, word_of};
 ghost use Rattle.graph_text.specs.declared.version.Version.TheVariants.{Three};
@@ -17,9 +17,9 @@ use crate::body::{input_numbers, kind_of, output_numbers};
 use crate::draft::{Draft, add_name};
 use crate::parents::{joins_now, parent_of};
 use crate::within::{EndNumbers, Numbers};
-use graph_base::phase_accum::Single;
 use graph_base::{Op, PhaserLine, Place, TaskLine};
 use graph_text::{Body, TaskWords, file_text, name_text};
+use phase_accum::Single;
 use std::alloc::{AllocError, Global};
 
 /// Adds the file of a task, where it is a source.

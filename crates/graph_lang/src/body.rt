@@ -3,7 +3,7 @@ ghost use Rattle.std.specs.Prelude.{◌≡◌, ◌++◌, ◌==◌, nat_lt, IsTru
 ghost use Rattle.std.specs.Str.{bytes_eq};
 ghost use Rattle.std.specs.List.{list_all, list_any};
 ghost use Rattle.graph_text.specs.Plain.{plain};
-ghost use Rattle.graph_text.specs.phase_base.Words.{is_name};
+ghost use Rattle.phase_base.specs.Words.{is_name};
 ghost use Rattle.graph_text.specs.Lines.{body_of};
 ghost use Rattle.graph_base.specs.Names.{names_of, phaser_named};
 ghost use Rattle.graph_lang.specs.WordValues.{inputs_of, outputs_of, phaser_numbers, kind_of_body};

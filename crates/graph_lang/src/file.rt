@@ -1,6 +1,6 @@
 //! Samples in files.
 ghost use Rattle.std.specs.Prelude.{◌≡◌, ◌≤◌, ℕ, List, length, IfOk, IfSome, IsErrOf};
-ghost use Rattle.graph_base.specs.phase_accum.Sends.{AreSends};
+ghost use Rattle.phase_accum.specs.Sends.{AreSends};
 ghost use Rattle.graph_lang.specs.Samples.{AreSamplesOf, HasBadSample, AreShortSamples, IsBadShortSample};
 ghost use Rattle.watched_io.specs.Files.{MayBeRefused, MayNeedMemory};
 

@@ -25,16 +25,12 @@ mod within;
 
 pub use fault::{FaultKind, GraphFault, GraphRefusal};
 pub use file::read_sample_file;
-pub use graph_base;
 pub use graph_base::{
     ENDS_MAX, EVERY_MAX, FACTOR_MAX, Graph, Kind, Mode, Op, PHASERS_MAX, Parent, PhaserLine, Place,
-    Registration, STEPS_MAX, TASKS_MAX, TaskLine, phase_accum, stream_filters,
+    Registration, STEPS_MAX, TASKS_MAX, TaskLine,
 };
-pub use graph_text;
-pub use graph_text::phase_base;
 pub use plain::{parts_have_samples, plain_part};
 pub use read::read_graph;
 pub use sample::{TEXT_MAX, read_samples, samples_of, samples_with};
 pub use text_fault::SampleFault;
 pub use texts::{OneThread, SampleTexts};
-pub use watched_io;

@@ -1,10 +1,10 @@
 //! Numbers in their one form.
 ghost use Rattle.std.specs.Prelude.{◌≡◌, ℤ, IfSome, IfNone};
 ghost use Rattle.std.specs.Fmt.{signed_decimal};
-ghost use Rattle.graph_base.specs.phase_accum.Sends.{IsSend};
+ghost use Rattle.phase_accum.specs.Sends.{IsSend};
 
-use graph_base::phase_accum::MAGNITUDE_MAX;
-use graph_text::phase_base::int;
+use phase_accum::MAGNITUDE_MAX;
+use phase_base::int;
 
 /// The value that the word spells.
 pub fn value_of(word: &[u8]) -> Option<i64>

@@ -2,10 +2,10 @@
 ghost use Rattle.std.specs.Prelude.{◌≡◌, ◌||◌, ◌&&◌, ◌∷◌, [], not, is_some, option_map, IsTrue, IfSome, Some, None, if◌then◌else◌};
 ghost use Rattle.std.specs.List.{list_all};
 ghost use Rattle.graph_text.specs.Plain.{plain};
-ghost use Rattle.graph_text.specs.phase_base.Words.{is_name};
+ghost use Rattle.phase_base.specs.Words.{is_name};
 ghost use Rattle.graph_text.specs.Decls.{IsBy};
 ghost use Rattle.graph_text.specs.Lines.{by_of};
-ghost use Rattle.graph_text.specs.phase_base.Numbers.{nat_value};
+ghost use Rattle.phase_base.specs.Numbers.{nat_value};
 ghost use Rattle.graph_base.specs.Names.{names_of, place_of};
 ghost use Rattle.graph_base.specs.GraphFields.{task_of};
 ghost use Rattle.graph_lang.specs.WordValues.{parent_of, joins_now};

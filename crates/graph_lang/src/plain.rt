@@ -2,12 +2,12 @@
 //! by `int` of `phase_base`: most of the time of a long text goes here.
 ghost use Rattle.std.specs.Prelude.{◌≡◌, ◌≤◌, ◌++◌, ℕ, ℤ, List, [], length, take, IfOk, IfSome};
 ghost use Rattle.std.specs.Str.Parse.{AllDigits, digits_value};
-ghost use Rattle.graph_base.specs.phase_accum.Sends.{AreSends};
+ghost use Rattle.phase_accum.specs.Sends.{AreSends};
 ghost use Rattle.graph_lang.specs.PlainLines.{ArePlainLines};
 ghost use Rattle.graph_lang.specs.Samples.{AreRecordsOfValues};
 ghost use Rattle.graph_lang.specs.TextInside.{BeginsWithWord, BeginsWithCount, BeginsWithLine};
 
-use graph_base::phase_accum::MAGNITUDE_MAX;
+use phase_accum::MAGNITUDE_MAX;
 use std::alloc::{AllocError, Global};
 
 /// Digits at the front of a text: their number, and how many they are.

@@ -1,7 +1,7 @@
 //! Reading the lines of a graph's text.
 ghost use Rattle.std.specs.Prelude.{◌≡◌, IfOk, IfErr, IfSome, OnOk, Ok, Err, Some, None, is_some, not, false};
 ghost use Rattle.graph_text.specs.Decls.{IsWellFormedBy};
-ghost use Rattle.graph_text.specs.phase_base.Words.{is_name};
+ghost use Rattle.phase_base.specs.Words.{is_name};
 ghost use Rattle.graph_text.specs.Lines.{decl_of, single_of, body_of, ends_of};
 ghost use Rattle.graph_text.specs.Plain.{plain};
 ghost use Rattle.graph_text.specs.Texts.{lines_of, words_of_line, is_ignored};
@@ -9,9 +9,8 @@ ghost use Rattle.graph_text.specs.declared.version.Version.TheVariants.{Three};
 ghost use Rattle.graph_text.specs.declared.line.Line.TheVariants as line;
 ghost use Rattle.graph_lang.specs.WordValues.{phaser_line};
 ghost use Rattle.graph_lang.specs.Faults.{kind_of, is_past_limit};
-ghost use Rattle.graph_lang.specs.Reading.{AreNumbersOf, steps_in};
+ghost use Rattle.graph_lang.specs.Reading.{AreNumbersOf, steps_in, TellsDecl, TellsFault, version_in, version_behind, version_at, line_read};
 ghost use Rattle.graph_lang.specs.Reads.{Steps, Tells};
-ghost use Rattle.graph_lang.specs.Reading.{TellsDecl, TellsFault, version_in, version_behind, version_at, line_read};
 
 use crate::body::phaser_words;
 use crate::draft::{Draft, place_of};

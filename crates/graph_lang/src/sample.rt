@@ -2,7 +2,7 @@
 ghost use Rattle.std.specs.Prelude.{◌≡◌, ◌≢◌, ◌⊎◌, ◌∷◌, [], ◌≤◌, ◌<◌, ℕ, ℤ, length, true, IfOk, OnOk, IfSome, IfNone, IsErrOf, Err};
 ghost use Rattle.std.specs.Fmt.{signed_decimal};
 ghost use Rattle.csv.specs.Records.{fields_of};
-ghost use Rattle.graph_base.specs.phase_accum.Sends.{IsSend, AreSends};
+ghost use Rattle.phase_accum.specs.Sends.{IsSend, AreSends};
 ghost use Rattle.graph_lang.specs.PlainLines.{ArePlainLines};
 ghost use Rattle.graph_lang.specs.TextInside.{IsThroughComma};
 ghost use Rattle.graph_lang.specs.Samples.{AreRecordsOfValues, IsBadSample, AreShortSamples, IsBadShortSample, ReadsSamples, ReadsBadSample};

@@ -1,6 +1,6 @@
 //! Who reads the samples of a text.
 ghost use Rattle.std.specs.Prelude.{◌≤◌, ℕ, ⊤, length, IfOk, IsErrOf};
-ghost use Rattle.graph_base.specs.phase_accum.Sends.{AreSends};
+ghost use Rattle.phase_accum.specs.Sends.{AreSends};
 ghost use Rattle.graph_lang.specs.Samples.{AreRecordsOfValues, IsBadSample};
 
 use crate::{SampleFault, samples_of};

@@ -4,22 +4,22 @@ ghost use Rattle.std.specs.Option.{option_map_or};
 ghost use Rattle.std.specs.Int.Signed.{le_z};
 ghost use Rattle.std.specs.List.{list_all};
 ghost use Rattle.graph_text.specs.Plain.{plain};
-ghost use Rattle.graph_text.specs.phase_base.Numbers.{is_nat, is_int, nat_value, int_value};
+ghost use Rattle.phase_base.specs.Numbers.{is_nat, is_int, nat_value, int_value};
 ghost use Rattle.graph_text.specs.Decls.{IsFunction, IsBody, AreEnds, IsBy, may_have_parent};
 ghost use Rattle.graph_text.specs.declared.version.Version.TheVariants.{Three};
-ghost use Rattle.graph_base.specs.stream_filters.Filter.{no_form};
-ghost use Rattle.graph_base.specs.stream_filters.declared.fir.TheConstants.{DELAY_MAX};
+ghost use Rattle.stream_filters.specs.Filter.{no_form};
+ghost use Rattle.stream_filters.specs.declared.fir.TheConstants.{DELAY_MAX};
 ghost use Rattle.graph_text.specs.Lines.{single_of as function_words, function_of, body_of, ends_of, by_of, word_of};
 ghost use Rattle.graph_lang.specs.WordValues.{single_of, phaser_line, taps_of, plus_of, filter_form, factor_of, block_of};
 ghost use Rattle.graph_lang.specs.Reading.{AreNumbersOf, steps_in};
 ghost use Rattle.graph_lang.specs.Faults.{is_function_within, is_bound_within, is_body_within, is_tap_within, is_plus_within, is_number_of_ends, is_count_within, are_ends_within, is_phaser_within};
 
-use graph_base::phase_accum::{MAGNITUDE_MAX, Single};
-use graph_base::stream_filters::{DELAY_MAX, Form, PLUS_MAX, SHIFT_MAX, TAP_MAX, TAPS_MAX};
 use graph_base::{ENDS_MAX, EVERY_MAX, FACTOR_MAX, PhaserLine, STEPS_MAX};
-use graph_text::phase_base::BOUND_MAX;
 use graph_text::{Body, Ends, Function, PhaserWords, int_within, nat_within};
+use phase_accum::{MAGNITUDE_MAX, Single};
+use phase_base::BOUND_MAX;
 use std::alloc::{AllocError, Global};
+use stream_filters::{DELAY_MAX, Form, PLUS_MAX, SHIFT_MAX, TAP_MAX, TAPS_MAX};
 
 // ---- phasers
 

@@ -1,7 +1,7 @@
 -- The numbers by which C is told of graphs: kinds of fault, places, and what is told of them.
 use Rattle.std.specs.Prelude.{ℕ, pos}
-use Rattle.graph_lang.specs.graph_base.declared.place.Place.{Place}
-use Rattle.graph_lang.specs.graph_base.declared.place.Place.TheVariants as place
+use Rattle.graph_base.specs.declared.place.Place.{Place}
+use Rattle.graph_base.specs.declared.place.Place.TheVariants as place
 use Rattle.graph_lang.specs.declared.fault.FaultKind.{FaultKind}
 use Rattle.graph_lang.specs.declared.fault.FaultKind.TheVariants.{Syntax, Limit, Twice, Unknown, OutBeforeIn, BadParent, NotHeld, OverBound, AnyMeets}
 use Rattle.graph_lang.specs.declared.fault.GraphFault.{GraphFault}

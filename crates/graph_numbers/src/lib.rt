@@ -6,5 +6,4 @@ mod fault;
 mod numbers;
 
 pub use fault::{PhaseCounts, PhaseFault};
-pub use graph_lang;
 pub use numbers::{NO_FAULT, graph_fault, too_big_fault};

@@ -8,12 +8,12 @@ use Rattle.phase_history.specs.Histories.{has_dropped, HasNoSignaller}
 use Rattle.phase_history.specs.Others.{IsUsed}
 use Rattle.phase_history.proofs.Signallers.{quiet_from}
 use Rattle.phase_history.proofs.Received.{none_from}
-use Rattle.stream_lists.specs.graph_base.declared.line.Parent.{Parent}
-use Rattle.stream_lists.specs.graph_base.declared.registration.Registration.{Registration}
-use Rattle.stream_lists.specs.graph_base.Graphs.{task_at}
-use Rattle.stream_lists.specs.graph_base.Registrations.{no_registration}
-use Rattle.stream_lists.specs.graph_base.TaskLines.{IsGraph, IsParent}
-use Rattle.stream_lists.proofs.graph_base_lemmas.Registered.{registrations-phasers}
+use Rattle.graph_base.specs.declared.line.Parent.{Parent}
+use Rattle.graph_base.specs.declared.registration.Registration.{Registration}
+use Rattle.graph_base.specs.Graphs.{task_at}
+use Rattle.graph_base.specs.Registrations.{no_registration}
+use Rattle.graph_base.specs.TaskLines.{IsGraph, IsParent}
+use Rattle.graph_base.proofs.Registered.{registrations-phasers}
 use Rattle.stream_lists.specs.Jobs.{Job}
 use Rattle.stream_lists.proofs.SpansAbove.{parent-is}
 use Rattle.graph_runs.specs.Moments.{Moment, HasRun, HasNotPassed, IsChild, IsOver, IsRegistered, Joined, OnLine, limits_at}

@@ -5,19 +5,19 @@ use Rattle.std.specs.Prelude.{slice_get, if◌then◌else◌}
 use Rattle.std.specs.List.{range_with_len, cons_option, list_any, find}
 use Rattle.std.proofs.lemmas.Bool.{eqb-true, cases_lt, le-leb, lt-leb}
 use Rattle.std.proofs.lemmas.Option.{same_Some, slice_get_within}
-use Rattle.phase_history.specs.phase_accum.Exchanges.{Exchanges}
-use Rattle.phase_history.proofs.phase_accum_lemmas.Orders.{Exchanges-sum, Exchanges-product, Exchanges-least, Exchanges-greatest}
+use Rattle.phase_accum.specs.Exchanges.{Exchanges}
+use Rattle.phase_accum.proofs.Orders.{Exchanges-sum, Exchanges-product, Exchanges-least, Exchanges-greatest}
 use Rattle.phase_history.specs.Histories.{History}
 use Rattle.phase_history.specs.Phases.{sends_of_phase}
-use Rattle.phase_history.specs.phase_base.Lists.{is_in}
+use Rattle.phase_base.specs.Lists.{is_in}
 use Rattle.phase_history.specs.Sent.{sent_in, gathered, OnlySignalled, OneHasSent}
 use Rattle.phase_history.proofs.Gathered.{sends_are_gathered}
 use Rattle.phase_history.proofs.OneSender.{gathered_alone}
 use Rattle.phase_history.proofs.Sendings.{sent_in-none}
-use Rattle.phase_history.specs.phase_base.declared.operation.Op.{Op}
-use Rattle.phase_history.specs.phase_base.declared.operation.Op.TheVariants.{Sum, Product, Least, Greatest, Any}
-use Rattle.stream_lists.specs.graph_base.Graphs.{task_at, phaser_at}
-use Rattle.stream_lists.specs.graph_base.TaskLines.{IsGraph}
+use Rattle.phase_base.specs.declared.operation.Op.{Op}
+use Rattle.phase_base.specs.declared.operation.Op.TheVariants.{Sum, Product, Least, Greatest, Any}
+use Rattle.graph_base.specs.Graphs.{task_at, phaser_at}
+use Rattle.graph_base.specs.TaskLines.{IsGraph}
 use Rattle.stream_lists.specs.Jobs.{Job, index_in}
 use Rattle.stream_lists.specs.Spans.{signalled_by, puts_on, spans_of, end_of, span_in, schedule_of}
 use Rattle.stream_lists.specs.Lists.{Contribution, send_in, contribution_at, contribution_by, value_by, numbers_of, output_on}

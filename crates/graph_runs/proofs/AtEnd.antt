@@ -8,8 +8,8 @@ use Rattle.std.proofs.lemmas.Option.{same_Some, slice_get-get_or}
 use Rattle.phase_history.specs.Histories.{History, has_dropped, HasNoSignaller}
 use Rattle.phase_history.specs.Others.{IsUsed}
 use Rattle.phase_history.proofs.Signallers.{quiet_from}
-use Rattle.stream_lists.specs.graph_base.Graphs.{task_at}
-use Rattle.stream_lists.specs.graph_base.TaskLines.{IsGraph}
+use Rattle.graph_base.specs.Graphs.{task_at}
+use Rattle.graph_base.specs.TaskLines.{IsGraph}
 use Rattle.stream_lists.specs.Jobs.{Job}
 use Rattle.stream_lists.specs.Lists.{is_sink_at, start_in}
 use Rattle.stream_lists.proofs.Starts.{lengths_stay}

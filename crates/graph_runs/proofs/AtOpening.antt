@@ -5,22 +5,22 @@ use Rattle.std.specs.List.{find}
 use Rattle.std.proofs.lemmas.Bool.{cases_lt, eqb-true, eq-eqb, ne_eqb}
 use Rattle.std.proofs.lemmas.Option.{same_Some}
 use Rattle.std.proofs.lemmas.List.{length-map, get_or-map}
-use Rattle.phase_history.specs.phase_base.Limits.{AreLimits}
-use Rattle.phase_history.specs.phase_base.Modes.{mode_signals, mode_waits}
-use Rattle.phase_history.specs.phase_base.declared.entry.Entry.{Entry}
-use Rattle.phase_history.specs.phase_base.declared.mode.Mode.{Mode}
+use Rattle.phase_base.specs.Limits.{AreLimits}
+use Rattle.phase_base.specs.Modes.{mode_signals, mode_waits}
+use Rattle.phase_base.specs.declared.entry.Entry.{Entry}
+use Rattle.phase_base.specs.declared.mode.Mode.{Mode}
 use Rattle.phase_history.specs.declared.event.Event.TheVariants.{Registered, Dropped}
 use Rattle.phase_history.specs.Histories.{History, IsBeginning, entry_at, founder, start_of, greatest_used, has_dropped}
 use Rattle.phase_history.specs.Others.{IsUsed}
 use Rattle.phase_history.proofs.Alive.{alive_law}
 use Rattle.phase_history.proofs.Beginnings.{IsBeginning-trans}
 use Rattle.phase_history.proofs.Used.{start_of-longer, start_used}
-use Rattle.stream_lists.specs.graph_base.declared.line.Parent.{Parent}
-use Rattle.stream_lists.specs.graph_base.declared.registration.Registration.{Registration}
-use Rattle.stream_lists.specs.graph_base.Graphs.{Task, task_at, no_task}
-use Rattle.stream_lists.specs.graph_base.Registrations.{registrations_of, no_registration}
-use Rattle.stream_lists.specs.graph_base.TaskLines.{IsGraph}
-use Rattle.stream_lists.proofs.graph_base_lemmas.Registered.{registrations-phasers}
+use Rattle.graph_base.specs.declared.line.Parent.{Parent}
+use Rattle.graph_base.specs.declared.registration.Registration.{Registration}
+use Rattle.graph_base.specs.Graphs.{Task, task_at, no_task}
+use Rattle.graph_base.specs.Registrations.{registrations_of, no_registration}
+use Rattle.graph_base.specs.TaskLines.{IsGraph}
+use Rattle.graph_base.proofs.Registered.{registrations-phasers}
 use Rattle.stream_lists.specs.Jobs.{Job, index_in}
 use Rattle.stream_lists.specs.Spans.{signalled_by}
 use Rattle.stream_lists.proofs.Growing.{grown-whole}

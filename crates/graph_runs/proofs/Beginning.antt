@@ -4,13 +4,13 @@ use Rattle.std.specs.Prelude.{nat_le, unwrap_or}
 use Rattle.std.specs.List.{filter_map, range_with_len}
 use Rattle.std.proofs.lemmas.Bool.{cases_lt, lt-leb, eq-eqb}
 use Rattle.std.proofs.lemmas.List.{length-append}
-use Rattle.phase_history.specs.phase_base.Limits.{AreLimits}
-use Rattle.phase_history.specs.phase_base.declared.limits.TheConstants.{MEMBERS_MAX}
-use Rattle.phase_history.specs.phase_base.declared.entry.Entry.{Entry}
-use Rattle.phase_history.specs.phase_base.declared.mode.Mode.{Mode}
-use Rattle.phase_history.specs.phase_base.declared.mode.Mode.TheVariants as mode
-use Rattle.phase_history.specs.phase_base.Members.{Members, member, entry_of, without}
-use Rattle.phase_history.specs.phase_base.Modes.{holds}
+use Rattle.phase_base.specs.Limits.{AreLimits}
+use Rattle.phase_base.specs.declared.limits.TheConstants.{MEMBERS_MAX}
+use Rattle.phase_base.specs.declared.entry.Entry.{Entry}
+use Rattle.phase_base.specs.declared.mode.Mode.{Mode}
+use Rattle.phase_base.specs.declared.mode.Mode.TheVariants as mode
+use Rattle.phase_base.specs.Members.{Members, member, entry_of, without}
+use Rattle.phase_base.specs.Modes.{holds}
 use Rattle.phase_history.specs.declared.event.Event.TheVariants.{Registered}
 use Rattle.phase_history.specs.Histories.{History, IsBeginning, entry_at, founder, members_of, greatest_used, signal_phase, wait_phase, start_of}
 use Rattle.phase_history.specs.Refusals.{register_refusal, refusal_at, drop_refusal}

@@ -2,11 +2,11 @@
 use Rattle.std.proofs.Common.{◌≡◌, ℕ, ◌+◌, ◌<◌, List, [], ◌++◌, length, get_or, ℤ, refl, sym, ap, ◌∙◌, arith}
 use Rattle.std.specs.Prelude.{drop}
 use Rattle.std.proofs.Math.Seq.{drop-append_seam}
-use Rattle.stream_lists.specs.stream_filters.Filter.{outputs}
-use Rattle.stream_lists.proofs.stream_filters_lemmas.Outputs.{outputs-block}
-use Rattle.stream_lists.specs.graph_base.declared.line.Kind.TheVariants.{Fir}
-use Rattle.stream_lists.specs.graph_base.Graphs.{task_at}
-use Rattle.stream_lists.specs.graph_base.TaskLines.{IsGraph}
+use Rattle.stream_filters.specs.Filter.{outputs}
+use Rattle.stream_filters.proofs.Outputs.{outputs-block}
+use Rattle.graph_base.specs.declared.line.Kind.TheVariants.{Fir}
+use Rattle.graph_base.specs.Graphs.{task_at}
+use Rattle.graph_base.specs.TaskLines.{IsGraph}
 use Rattle.stream_lists.specs.Jobs.{Job}
 use Rattle.stream_lists.specs.Spans.{signalled_by, puts_on}
 use Rattle.graph_runs.specs.Moments.{Moment, TaskRan, made_now, taken_now}

@@ -8,14 +8,14 @@ use Rattle.std.proofs.lemmas.Bool.{and_right, le-ltb, lt-ltb, not_from_true, eq-
 use Rattle.std.proofs.lemmas.List.{length-map, length-take-le, length-drop}
 use Rattle.std.proofs.lemmas.List.FromFn.{length-range_with_len}
 use Rattle.std.proofs.lemmas.Bool.Decides.{nat_tests}
-use Rattle.phase_history.specs.phase_base.Members.{least, wait_phases, signalled}
-use Rattle.phase_history.specs.phase_base.Modes.{mode_signals, mode_waits, is_single}
-use Rattle.phase_history.specs.phase_base.declared.entry.Entry.{Entry}
-use Rattle.phase_history.specs.phase_base.declared.limits.TheConstants.{SENDS_MAX}
-use Rattle.phase_history.specs.phase_base.declared.mode.Mode.{Mode}
-use Rattle.phase_history.specs.phase_base.Lists.{first_row}
-use Rattle.phase_history.specs.phase_accum.declared.outcome.Outcome.{Outcome}
-use Rattle.phase_history.specs.phase_accum.Singles.{differs}
+use Rattle.phase_base.specs.Members.{least, wait_phases, signalled}
+use Rattle.phase_base.specs.Modes.{mode_signals, mode_waits, is_single}
+use Rattle.phase_base.specs.declared.entry.Entry.{Entry}
+use Rattle.phase_base.specs.declared.limits.TheConstants.{SENDS_MAX}
+use Rattle.phase_base.specs.declared.mode.Mode.{Mode}
+use Rattle.phase_base.specs.Lists.{first_row}
+use Rattle.phase_accum.specs.declared.outcome.Outcome.{Outcome}
+use Rattle.phase_accum.specs.Singles.{differs}
 use Rattle.phase_history.specs.declared.event.Event.TheVariants.{Waited}
 use Rattle.phase_history.specs.declared.got.GotBlock.TheVariants as block
 use Rattle.phase_history.specs.declared.refusal.SignalRefusal.{SignalRefusal}
@@ -25,9 +25,9 @@ use Rattle.phase_history.specs.Phases.{sends_of_phase, named_in_phase, stream_of
 use Rattle.phase_history.specs.Refusals.{signal_refusal, list_rows, is_ahead, is_bad_block}
 use Rattle.phase_history.specs.Replies.{wait_block_reply}
 use Rattle.phase_history.proofs.BlockAnswers.{block_answers_law}
-use Rattle.stream_lists.specs.graph_base.declared.line.Parent.{Parent}
-use Rattle.stream_lists.specs.graph_base.Graphs.{task_at, phaser_at}
-use Rattle.stream_lists.specs.graph_base.TaskLines.{IsGraph}
+use Rattle.graph_base.specs.declared.line.Parent.{Parent}
+use Rattle.graph_base.specs.Graphs.{task_at, phaser_at}
+use Rattle.graph_base.specs.TaskLines.{IsGraph}
 use Rattle.stream_lists.specs.Jobs.{Job, samples_at}
 use Rattle.graph_runs.specs.Moments.{one, Moment, HasRun, TaskRan, AtMost, HasSamples, limits_at, value_at}
 use Rattle.graph_runs.specs.Moves.{MayBeginTo}

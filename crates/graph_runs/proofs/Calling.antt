@@ -3,8 +3,8 @@ use Rattle.std.proofs.Common.{◌≡◌, ℕ, zero, suc, ◌+◌, ◌<◌, ◌-�
 use Rattle.std.specs.Prelude.{Result, Ok, Err, nat_le, unwrap_or, take, drop, min, slice_range}
 use Rattle.std.proofs.lemmas.List.{length-take-le, length-drop}
 use Rattle.std.proofs.lemmas.Bool.{and_parts, leb-true, eqb-true, or_cases}
-use Rattle.phase_history.specs.phase_base.Members.{signal_phases}
-use Rattle.phase_history.specs.phase_accum.declared.outcome.Outcome.{Outcome}
+use Rattle.phase_base.specs.Members.{signal_phases}
+use Rattle.phase_accum.specs.declared.outcome.Outcome.{Outcome}
 use Rattle.phase_history.specs.declared.got.Got.{Got}
 use Rattle.phase_history.specs.declared.got.Got.TheVariants as got
 use Rattle.phase_history.specs.declared.got.GotBlock.{GotBlock}
@@ -17,12 +17,12 @@ use Rattle.phase_history.specs.Phases.{stream_of}
 use Rattle.phase_history.specs.Replies.{wait_reply, wait_block_reply, refused_or, got_at}
 use Rattle.phase_history.proofs.BlockAnswers.{block_tells, wait_refusal-fewer}
 use Rattle.phase_history.proofs.LawProofs.{answers_law, reply_tells}
-use Rattle.stream_lists.specs.graph_base.declared.line.Kind.{Kind}
-use Rattle.stream_lists.specs.graph_base.declared.line.Kind.TheVariants.{Source, Fir, Split, Decimate, Join, Peer, Sink}
-use Rattle.stream_lists.specs.graph_base.declared.registration.Registration.{Registration}
-use Rattle.stream_lists.specs.graph_base.Graphs.{task_at}
-use Rattle.stream_lists.specs.graph_base.Registrations.{no_registration}
-use Rattle.stream_lists.specs.graph_base.TaskLines.{IsGraph, has_blocks}
+use Rattle.graph_base.specs.declared.line.Kind.{Kind}
+use Rattle.graph_base.specs.declared.line.Kind.TheVariants.{Source, Fir, Split, Decimate, Join, Peer, Sink}
+use Rattle.graph_base.specs.declared.registration.Registration.{Registration}
+use Rattle.graph_base.specs.Graphs.{task_at}
+use Rattle.graph_base.specs.Registrations.{no_registration}
+use Rattle.graph_base.specs.TaskLines.{IsGraph, has_blocks}
 use Rattle.stream_lists.specs.Jobs.{Job, samples_at, index_in}
 use Rattle.stream_lists.specs.Spans.{signalled_by, puts_on}
 use Rattle.graph_runs.specs.Moments.{Moment, HasRun, HasEnded, HasSamples, MayStop, at_until, no_sample, no_input, OnLine, limits_at, value_at, input_at, first_input, made_now}

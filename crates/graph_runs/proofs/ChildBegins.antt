@@ -3,8 +3,8 @@
 use Rattle.std.proofs.Common.{◌≡◌, ◌≢◌, ℕ, ◌+◌, ◌<◌, ◌≤◌, true, false, not, eqb, List, [], ◌∷◌, Option, Some, None, ℤ, length, map, refl, sym, ap, subst, ◌∙◌, arith, ◌⊎◌, inl, inr}
 use Rattle.std.proofs.lemmas.Bool.{eq-eqb}
 use Rattle.std.proofs.lemmas.Option.{same_Some}
-use Rattle.phase_history.specs.phase_base.declared.entry.Entry.{Entry}
-use Rattle.phase_history.specs.phase_base.declared.mode.Mode.{Mode}
+use Rattle.phase_base.specs.declared.entry.Entry.{Entry}
+use Rattle.phase_base.specs.declared.mode.Mode.{Mode}
 use Rattle.phase_history.specs.declared.event.Event.TheVariants.{Registered}
 use Rattle.phase_history.specs.Histories.{History, entry_at, signal_phase, wait_phase, has_dropped, start_of}
 use Rattle.phase_history.specs.Phases.{received_by}
@@ -14,9 +14,9 @@ use Rattle.phase_history.specs.Sent.{sent_by, IsSilent}
 use Rattle.phase_history.proofs.LawProofs.{above_law}
 use Rattle.phase_history.proofs.Refused.{registers_from}
 use Rattle.phase_history.proofs.Sendings.{length-sent_by}
-use Rattle.stream_lists.specs.graph_base.declared.line.Parent.{Parent}
-use Rattle.stream_lists.specs.graph_base.Graphs.{task_at}
-use Rattle.stream_lists.specs.graph_base.TaskLines.{IsGraph, IsParent, has_children}
+use Rattle.graph_base.specs.declared.line.Parent.{Parent}
+use Rattle.graph_base.specs.Graphs.{task_at}
+use Rattle.graph_base.specs.TaskLines.{IsGraph, IsParent, has_children}
 use Rattle.stream_lists.specs.Jobs.{Job, samples_at, index_in}
 use Rattle.stream_lists.specs.Spans.{signalled_by}
 use Rattle.stream_lists.specs.Lists.{number}

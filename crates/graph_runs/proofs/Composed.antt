@@ -1,12 +1,12 @@
 -- What a history has of the members of a phaser's list, and what a moment has of the lists that the
 -- definitions compose.
 use Rattle.std.specs.Prelude.{◌≡◌, ℕ, ◌-◌, ◌<◌, ◌≤◌, ℤ, List, [], ◌++◌, Option, Some, None, true, map, length, get_or, take, drop}
-use Rattle.phase_history.specs.phase_base.Modes.{mode_signals}
-use Rattle.phase_history.specs.phase_base.declared.entry.Entry.{Entry}
+use Rattle.phase_base.specs.Modes.{mode_signals}
+use Rattle.phase_base.specs.declared.entry.Entry.{Entry}
 use Rattle.phase_history.specs.Histories.{History, done_of, start_of, has_dropped, HasNoSignaller}
 use Rattle.phase_history.specs.Phases.{value_of_phase}
 use Rattle.phase_history.specs.Sent.{sent_by, IsSilent}
-use Rattle.stream_lists.specs.graph_base.Graphs.{task_at}
+use Rattle.graph_base.specs.Graphs.{task_at}
 use Rattle.stream_lists.specs.Jobs.{Job}
 use Rattle.stream_lists.specs.Spans.{lengths_of, schedule_of}
 use Rattle.stream_lists.specs.Lists.{Contribution, contributions_on, phase_in, numbers_of}

@@ -1,15 +1,15 @@
 -- In which mode a task is on the phasers of its outputs and of its inputs.
 use Rattle.std.proofs.Common.{◌≡◌, ◌≢◌, ℕ, zero, suc, ◌+◌, ◌-◌, ◌<◌, Bool, true, false, not, ◌&&◌, cond, [], ◌∷◌, None, is_some, length, get_or, refl, sym, ap, subst, ◌∙◌, arith, ◌⊎◌, inl, inr}
-use Rattle.phase_history.specs.phase_base.Modes.{mode_signals, mode_waits, is_single}
-use Rattle.phase_history.specs.phase_base.declared.mode.Mode.{Mode}
-use Rattle.phase_history.specs.phase_base.declared.mode.Mode.TheVariants as mode
-use Rattle.stream_lists.specs.graph_base.declared.line.Kind.{Kind}
-use Rattle.stream_lists.specs.graph_base.declared.line.Kind.TheVariants.{Source, Fir, Split, Decimate, Join, Peer, Sink}
-use Rattle.stream_lists.specs.graph_base.declared.registration.Registration.{Registration}
-use Rattle.stream_lists.specs.graph_base.Graphs.{task_at, phaser_at}
-use Rattle.stream_lists.specs.graph_base.Registrations.{as_input, as_output, as_exchange, exchange_mode, no_registration}
-use Rattle.stream_lists.specs.graph_base.TaskLines.{IsGraph}
-use Rattle.stream_lists.proofs.graph_base_lemmas.Registered.{registrations-plain, length-registrations, end-input, end-output}
+use Rattle.phase_base.specs.Modes.{mode_signals, mode_waits, is_single}
+use Rattle.phase_base.specs.declared.mode.Mode.{Mode}
+use Rattle.phase_base.specs.declared.mode.Mode.TheVariants as mode
+use Rattle.graph_base.specs.declared.line.Kind.{Kind}
+use Rattle.graph_base.specs.declared.line.Kind.TheVariants.{Source, Fir, Split, Decimate, Join, Peer, Sink}
+use Rattle.graph_base.specs.declared.registration.Registration.{Registration}
+use Rattle.graph_base.specs.Graphs.{task_at, phaser_at}
+use Rattle.graph_base.specs.Registrations.{as_input, as_output, as_exchange, exchange_mode, no_registration}
+use Rattle.graph_base.specs.TaskLines.{IsGraph}
+use Rattle.graph_base.proofs.Registered.{registrations-plain, length-registrations, end-input, end-output}
 use Rattle.stream_lists.specs.Jobs.{Job}
 use Rattle.stream_lists.specs.Spans.{signalled_by}
 use Rattle.graph_runs.specs.Moments.{input_at}

@@ -1,12 +1,12 @@
 -- A value that a turn tells as out of range is so with all samples that continue the run.
 use Rattle.std.proofs.Common.{◌≡◌, ◌≢◌, ℕ, ℤ, ◌<◌, ◌≤◌, ◌∷◌, [], ◌||◌, Bool, true, false, cond, List, Option, Some, None, length, take, drop, refl, sym, ap, subst, ◌∙◌, ◌⊎◌, inl, inr, arith}
-use Rattle.phase_history.specs.phase_accum.declared.outcome.Outcome.{Outcome}
+use Rattle.phase_accum.specs.declared.outcome.Outcome.{Outcome}
 use Rattle.phase_history.specs.declared.event.Event.TheVariants.{Waited}
 use Rattle.phase_history.specs.Histories.{has_dropped}
-use Rattle.stream_lists.specs.graph_base.Graphs.{task_at}
-use Rattle.stream_lists.specs.graph_base.TaskLines.{IsGraph}
-use Rattle.stream_lists.specs.graph_base.declared.line.Kind.{Kind}
-use Rattle.stream_lists.specs.graph_base.declared.line.Kind.TheVariants.{Source, Fir, Split, Decimate, Join, Peer, Sink}
+use Rattle.graph_base.specs.Graphs.{task_at}
+use Rattle.graph_base.specs.TaskLines.{IsGraph}
+use Rattle.graph_base.specs.declared.line.Kind.{Kind}
+use Rattle.graph_base.specs.declared.line.Kind.TheVariants.{Source, Fir, Split, Decimate, Join, Peer, Sink}
 use Rattle.stream_lists.specs.Jobs.{Job, samples_at, samples_in, with_samples}
 use Rattle.stream_lists.specs.Ranges.{Where, are_made}
 use Rattle.graph_runs.specs.Answers.{Answer, Ended, Moved, TooBig, after_answer, has_made, is_blocked, is_gone, is_refused, makes, output_at, signal_turn, told_event, word_of_answer, answer_up_to, turn_up_to, values_up_to, samples_up_to, tells_up_to}

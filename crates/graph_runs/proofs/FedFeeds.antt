@@ -4,8 +4,8 @@ use Rattle.std.proofs.Common.{◌≡◌, ℕ, ℤ, ◌+◌, ◌<◌, ◌≤◌, 
 use mathlib.Core.List.{IsPrefix}
 use Rattle.std.proofs.lemmas.List.{length-append}
 use Rattle.phase_history.specs.Histories.{has_dropped}
-use Rattle.stream_lists.specs.graph_base.Graphs.{task_at}
-use Rattle.stream_lists.specs.graph_base.declared.line.Kind.{Kind}
+use Rattle.graph_base.specs.Graphs.{task_at}
+use Rattle.graph_base.specs.declared.line.Kind.{Kind}
 use Rattle.stream_lists.specs.Jobs.{Job, samples_at, samples_in}
 use Rattle.graph_runs.specs.Moments.{Moment, HasRun, TaskRan, HasEnded, HasSamples, MayStop, at_until, OnOutput, OnInput, OnPhaser, PutOn, TakenOn, OnLine}
 use Rattle.graph_runs.proofs.Entries.{take_of_prefix}

@@ -6,9 +6,9 @@ use Rattle.std.proofs.lemmas.Option.{same_Some}
 use Rattle.phase_history.specs.declared.event.Event.{Event}
 use Rattle.phase_history.specs.declared.event.Event.TheVariants.{Registered, RegisteredNow, Dropped}
 use Rattle.phase_history.specs.Histories.{History, has_dropped}
-use Rattle.stream_lists.specs.graph_base.Graphs.{task_at, is_source}
-use Rattle.stream_lists.specs.graph_base.TaskLines.{IsGraph}
-use Rattle.stream_lists.specs.graph_base.declared.line.Kind.TheVariants.{Source, Sink}
+use Rattle.graph_base.specs.Graphs.{task_at, is_source}
+use Rattle.graph_base.specs.TaskLines.{IsGraph}
+use Rattle.graph_base.specs.declared.line.Kind.TheVariants.{Source, Sink}
 use Rattle.stream_lists.specs.Jobs.{Job, samples_at}
 use Rattle.graph_runs.specs.Moments.{Moment, HasRun, HasEnded, MayStop, at_until, no_sample, no_input, value_at, limits_at}
 use Rattle.graph_runs.specs.Moves.{IsStaying, further}

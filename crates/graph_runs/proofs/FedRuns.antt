@@ -2,10 +2,10 @@
 use Rattle.std.proofs.Common.{◌≡◌, ℕ, ℤ, ◌<◌, true, List, Option, Some, None, length, take, refl, sym, subst, ◌∙◌, inr}
 use mathlib.Core.List.{IsPrefix}
 use Rattle.phase_history.specs.Histories.{has_dropped}
-use Rattle.stream_lists.specs.graph_base.Graphs.{Task, task_at}
-use Rattle.stream_lists.specs.graph_base.declared.line.Kind.{Kind}
-use Rattle.stream_lists.specs.graph_base.declared.line.Kind.TheVariants.{Source, Fir, Split, Decimate, Join, Peer, Sink}
-use Rattle.stream_lists.specs.graph_base.TaskLines.{IsGraph}
+use Rattle.graph_base.specs.Graphs.{Task, task_at}
+use Rattle.graph_base.specs.declared.line.Kind.{Kind}
+use Rattle.graph_base.specs.declared.line.Kind.TheVariants.{Source, Fir, Split, Decimate, Join, Peer, Sink}
+use Rattle.graph_base.specs.TaskLines.{IsGraph}
 use Rattle.graph_runs.proofs.OnLines.{on_phaser}
 use Rattle.stream_lists.specs.Jobs.{index_in, Job, samples_at, with_samples}
 use Rattle.stream_lists.specs.Spans.{signalled_by}

@@ -6,22 +6,22 @@ use Rattle.std.proofs.lemmas.Bool.{eq-eqb, eqb-true, ne_eqb, not-false}
 use Rattle.std.proofs.lemmas.Nat.{mod_below, div-add-mod', div-mul-add}
 use Rattle.std.proofs.lemmas.List.{get_or-append_right, length-append, length-map, length-drop}
 use Rattle.std.proofs.lemmas.List.FromFn.{get_or-map-range_with_len, length-range_with_len}
-use Rattle.stream_lists.specs.stream_filters.Range.{ranged}
-use Rattle.stream_lists.specs.stream_filters.declared.fault.TooBigValue.{TooBigValue}
+use Rattle.stream_filters.specs.Range.{ranged}
+use Rattle.stream_filters.specs.declared.fault.TooBigValue.{TooBigValue}
 use Rattle.phase_history.specs.declared.event.Event.TheVariants.{Waited}
-use Rattle.phase_history.specs.phase_accum.declared.outcome.Outcome.{Outcome}
-use Rattle.phase_history.specs.phase_accum.Sends.{value_max}
+use Rattle.phase_accum.specs.declared.outcome.Outcome.{Outcome}
+use Rattle.phase_accum.specs.Sends.{value_max}
 use Rattle.phase_history.specs.Legal.{IsLegal}
-use Rattle.phase_history.specs.phase_base.Limits.{Limits}
-use Rattle.phase_history.specs.phase_base.Members.{entry_of}
+use Rattle.phase_base.specs.Limits.{Limits}
+use Rattle.phase_base.specs.Members.{entry_of}
 use Rattle.phase_history.specs.declared.refusal.WaitRefusal.TheVariants.{NoTask}
 use Rattle.phase_history.specs.Histories.{History, members_of, positions_of}
 use Rattle.phase_history.specs.Refusals.{wait_refusal, wait_rows, is_bad_block}
 use Rattle.phase_history.proofs.Refused.{Passes, passes_from}
-use Rattle.stream_lists.specs.graph_base.declared.line.Kind.{Kind}
-use Rattle.stream_lists.specs.graph_base.declared.line.Kind.TheVariants.{Source, Fir, Split, Decimate, Join, Peer, Sink}
-use Rattle.stream_lists.specs.graph_base.Graphs.{task_at}
-use Rattle.stream_lists.specs.graph_base.TaskLines.{IsGraph, HasEnds, has_blocks}
+use Rattle.graph_base.specs.declared.line.Kind.{Kind}
+use Rattle.graph_base.specs.declared.line.Kind.TheVariants.{Source, Fir, Split, Decimate, Join, Peer, Sink}
+use Rattle.graph_base.specs.Graphs.{task_at}
+use Rattle.graph_base.specs.TaskLines.{IsGraph, HasEnds, has_blocks}
 use Rattle.stream_lists.specs.Jobs.{Job}
 use Rattle.stream_lists.specs.Spans.{signalled_by, puts_on, takes_from, turns_below}
 use Rattle.stream_lists.specs.Lists.{number, entry, every, in_turn, turn_at}

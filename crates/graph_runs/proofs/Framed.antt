@@ -2,7 +2,7 @@
 use Rattle.std.proofs.Common.{◌≡◌, ℕ, ◌+◌, ◌<◌, ◌≤◌, [], ◌∷◌, Option, Some, None, length, map, refl, sym, ap, subst, ◌∙◌, arith, inl, inr}
 use mathlib.Core.List.{IsPrefix}
 use Rattle.std.proofs.lemmas.List.FromFn.{length-map-range_with_len}
-use Rattle.phase_history.specs.phase_base.declared.entry.Entry.{Entry}
+use Rattle.phase_base.specs.declared.entry.Entry.{Entry}
 use Rattle.phase_history.specs.Histories.{History, done_of, has_dropped, start_of, phases_signalled}
 use Rattle.phase_history.specs.Phases.{received_by, stream_of, value_of_phase}
 use Rattle.phase_history.specs.Others.{OthersCame}
@@ -10,9 +10,9 @@ use Rattle.phase_history.specs.Sent.{sent_by, IsSilent}
 use Rattle.phase_history.proofs.OthersEvents.{sent_by-others, has_dropped-others, received_by-others, phases_signalled-others}
 use Rattle.phase_history.proofs.Used.{start_of-longer}
 use Rattle.phase_history.proofs.Streams.{stream_closed, signallers_closed}
-use Rattle.stream_lists.specs.graph_base.declared.line.Parent.{Parent}
-use Rattle.stream_lists.specs.graph_base.Graphs.{task_at}
-use Rattle.stream_lists.specs.graph_base.TaskLines.{IsGraph}
+use Rattle.graph_base.specs.declared.line.Parent.{Parent}
+use Rattle.graph_base.specs.Graphs.{task_at}
+use Rattle.graph_base.specs.TaskLines.{IsGraph}
 use Rattle.stream_lists.specs.Jobs.{Job, samples_at, index_in}
 use Rattle.stream_lists.specs.Spans.{signalled_by}
 use Rattle.stream_lists.specs.Lists.{number, output_list}

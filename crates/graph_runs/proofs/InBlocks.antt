@@ -2,12 +2,12 @@
 use Rattle.std.proofs.Common.{◌≡◌, ◌≢◌, ℕ, ◌+◌, ◌<◌, ◌≤◌, List, [], ◌∷◌, ◌++◌, ℤ, length, map, take, drop, refl, sym, ap, ◌∙◌, arith, inl, inr}
 use mathlib.Core.List.{IsPrefix}
 use Rattle.std.proofs.lemmas.List.{append-nil, length-append, take-append-drop, take-take, drop-take}
-use Rattle.phase_history.specs.phase_accum.declared.outcome.Outcome.{Outcome}
+use Rattle.phase_accum.specs.declared.outcome.Outcome.{Outcome}
 use Rattle.phase_history.specs.declared.event.Event.TheVariants.{Signalled, Waited}
-use Rattle.stream_lists.specs.graph_base.declared.line.Kind.{Kind}
-use Rattle.stream_lists.specs.graph_base.declared.line.Kind.TheVariants.{Source}
-use Rattle.stream_lists.specs.graph_base.Graphs.{task_at, phaser_at}
-use Rattle.stream_lists.specs.graph_base.TaskLines.{IsGraph}
+use Rattle.graph_base.specs.declared.line.Kind.{Kind}
+use Rattle.graph_base.specs.declared.line.Kind.TheVariants.{Source}
+use Rattle.graph_base.specs.Graphs.{task_at, phaser_at}
+use Rattle.graph_base.specs.TaskLines.{IsGraph}
 use Rattle.stream_lists.specs.Jobs.{Job, samples_at}
 use Rattle.stream_lists.specs.Spans.{signalled_by}
 use Rattle.stream_lists.specs.Lists.{output_list, number}

@@ -4,8 +4,8 @@ use Rattle.std.proofs.Common.{◌≡◌, ℕ, ◌<◌, ◌≤◌, true, List, []
 use Rattle.std.proofs.lemmas.Bool.{cases_lt}
 use Rattle.std.proofs.lemmas.Option.{same_Some}
 use Rattle.phase_history.specs.Histories.{History}
-use Rattle.phase_history.specs.phase_base.Lists.{is_in}
-use Rattle.stream_lists.specs.graph_base.TaskLines.{IsGraph}
+use Rattle.phase_base.specs.Lists.{is_in}
+use Rattle.graph_base.specs.TaskLines.{IsGraph}
 use Rattle.stream_lists.specs.Jobs.{Job}
 use Rattle.graph_runs.specs.Moments.{Moment, IsRegistered, numbers_on}
 use Rattle.graph_runs.proofs.Numbers.{in_numbers, from_numbers}

@@ -1,6 +1,6 @@
 -- A moment that is put together of what each task had on its own.
 use Rattle.std.proofs.Common.{ℕ, ◌<◌, length}
-use Rattle.stream_lists.specs.graph_base.TaskLines.{IsGraph}
+use Rattle.graph_base.specs.TaskLines.{IsGraph}
 use Rattle.stream_lists.specs.Jobs.{Job}
 use Rattle.graph_runs.specs.Moments.{Moment, HasRun, PhaserRan, TaskRan}
 use Rattle.graph_runs.specs.Moves.{HasGrown, OthersMoved}

@@ -4,9 +4,9 @@ use Rattle.std.proofs.Common.{◌≡◌, ◌≢◌, ℕ, ◌+◌, ◌<◌, ◌�
 use Rattle.std.specs.Prelude.{is_some}
 use Rattle.std.proofs.lemmas.Bool.{ne_eqb, eq-eqb}
 use Rattle.std.proofs.lemmas.Option.{same_Some}
-use Rattle.phase_history.specs.phase_base.declared.entry.Entry.{Entry}
-use Rattle.phase_history.specs.phase_base.declared.mode.Mode.TheVariants.{Wait}
-use Rattle.phase_history.specs.phase_base.Lists.{is_in}
+use Rattle.phase_base.specs.declared.entry.Entry.{Entry}
+use Rattle.phase_base.specs.declared.mode.Mode.TheVariants.{Wait}
+use Rattle.phase_base.specs.Lists.{is_in}
 use Rattle.phase_history.specs.declared.event.Event.TheVariants.{RegisteredNow}
 use Rattle.phase_history.specs.Histories.{History, IsBeginning, entry_at, signal_phase, wait_phase, done_of, has_dropped, greatest_used, start_of, phases_waited}
 use Rattle.phase_history.specs.Phases.{received_by}
@@ -18,10 +18,10 @@ use Rattle.phase_history.proofs.LawProofs.{above_law}
 use Rattle.phase_history.proofs.Left.{received_law}
 use Rattle.phase_history.proofs.Refused.{registers_from}
 use Rattle.phase_history.proofs.Used.{start_used, start_from, start_of-longer}
-use Rattle.stream_lists.specs.graph_base.declared.line.Kind.TheVariants.{Sink}
-use Rattle.stream_lists.specs.graph_base.declared.line.Parent.{Parent}
-use Rattle.stream_lists.specs.graph_base.Graphs.{task_at, phaser_at}
-use Rattle.stream_lists.specs.graph_base.TaskLines.{IsGraph, IsParent, has_children}
+use Rattle.graph_base.specs.declared.line.Kind.TheVariants.{Sink}
+use Rattle.graph_base.specs.declared.line.Parent.{Parent}
+use Rattle.graph_base.specs.Graphs.{task_at, phaser_at}
+use Rattle.graph_base.specs.TaskLines.{IsGraph, IsParent, has_children}
 use Rattle.stream_lists.specs.Jobs.{Job, index_in}
 use Rattle.stream_lists.specs.Spans.{signalled_by, takes_from}
 use Rattle.stream_lists.specs.Lists.{number}

@@ -1,19 +1,19 @@
 -- One event of one task keeps what a moment has of the whole.
 use Rattle.std.proofs.Common.{◌≡◌, ◌≢◌, ℕ, ◌<◌, ◌≤◌, Bool, true, false, ◌||◌, cond, eqb, List, [], ◌∷◌, Some, ℤ, length, map, refl, sym, ap, subst, ◌∙◌, arith, ◌⊎◌, inl, inr}
 use Rattle.std.proofs.lemmas.Bool.{eqb-true, ne_eqb}
-use Rattle.phase_history.specs.phase_accum.declared.outcome.Outcome.{Outcome}
+use Rattle.phase_accum.specs.declared.outcome.Outcome.{Outcome}
 use Rattle.phase_history.specs.declared.event.Event.{Event}
 use Rattle.phase_history.specs.declared.event.Event.TheVariants.{Signalled, Waited, Dropped}
 use Rattle.phase_history.specs.Histories.{History, IsBeginning, start_of}
 use Rattle.phase_history.specs.Legal.{IsLegal}
 use Rattle.phase_history.specs.Others.{is_by, IsUsed, OthersCame}
-use Rattle.phase_history.specs.phase_base.Lists.{is_in}
+use Rattle.phase_base.specs.Lists.{is_in}
 use Rattle.phase_history.specs.Sent.{NamesAll, IsSilent}
 use Rattle.phase_history.proofs.OthersEvents.{OthersCame-refl, OthersCame-event, phases_signalled-others}
 use Rattle.phase_history.proofs.Used.{IsUsed-longer}
-use Rattle.stream_lists.specs.graph_base.declared.line.Parent.{Parent}
-use Rattle.stream_lists.specs.graph_base.Graphs.{phaser_at}
-use Rattle.stream_lists.specs.graph_base.TaskLines.{IsGraph}
+use Rattle.graph_base.specs.declared.line.Parent.{Parent}
+use Rattle.graph_base.specs.Graphs.{phaser_at}
+use Rattle.graph_base.specs.TaskLines.{IsGraph}
 use Rattle.stream_lists.specs.Jobs.{Job}
 use Rattle.stream_lists.proofs.Growing.{filter_map-same}
 use Rattle.graph_runs.specs.Moments.{one, Moment, HasRun, PhaserRan, TaskRan, limits_at, numbers_on, IsRegistered}

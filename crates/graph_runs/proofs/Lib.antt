@@ -87,5 +87,3 @@ pub mod AtEnd
 pub mod StandFed
 pub mod StopsRight
 pub mod StartsAtEnd
-pub use Rattle.phase_history.proofs as phase_history_lemmas
-pub use Rattle.stream_lists.proofs as stream_lists_lemmas

@@ -3,26 +3,26 @@ use Rattle.std.proofs.Common.{◌≡◌, ◌≢◌, ℕ, ◌+◌, ◌-◌, ◌<�
 use Rattle.std.specs.Prelude.{unwrap_or, nat_lt}
 use Rattle.std.specs.List.{position_from}
 use Rattle.std.proofs.lemmas.Bool.{and_left, and_right, ne_eqb, false_from_ne_true, cases_lt, not-true, le-ltb, lt-ltb}
-use Rattle.phase_history.specs.phase_base.Members.{entry_of}
-use Rattle.phase_history.specs.phase_base.Modes.{holds, mode_signals, mode_waits}
-use Rattle.phase_history.specs.phase_base.declared.mode.Mode.{Mode}
-use Rattle.phase_history.specs.phase_base.declared.mode.Mode.TheVariants.{Wait}
-use Rattle.phase_history.specs.phase_base.Limits.{Limits}
-use Rattle.phase_history.specs.phase_accum.declared.outcome.Outcome.{Outcome}
+use Rattle.phase_base.specs.Members.{entry_of}
+use Rattle.phase_base.specs.Modes.{holds, mode_signals, mode_waits}
+use Rattle.phase_base.specs.declared.mode.Mode.{Mode}
+use Rattle.phase_base.specs.declared.mode.Mode.TheVariants.{Wait}
+use Rattle.phase_base.specs.Limits.{Limits}
+use Rattle.phase_accum.specs.declared.outcome.Outcome.{Outcome}
 use Rattle.phase_history.specs.declared.refusal.SignalRefusal.{SignalRefusal}
 use Rattle.phase_history.specs.declared.refusal.SignalRefusal.TheVariants as signal_refusals
-use Rattle.phase_history.specs.phase_base.declared.entry.Entry.{Entry}
+use Rattle.phase_base.specs.declared.entry.Entry.{Entry}
 use Rattle.phase_history.specs.Histories.{History, members_of, done_of, wait_phase, has_dropped, greatest_used, IsAlive}
 use Rattle.phase_history.specs.Refusals.{signal_refusal, wait_refusal, drop_refusal, register_refusal, register_now_refusal, refusal_at, is_bad_block}
 use Rattle.phase_history.specs.Replies.{wait_reply, wait_block_reply}
 use Rattle.phase_history.proofs.Alive.{alive_law}
-use Rattle.stream_lists.specs.graph_base.declared.line.Kind.{Kind}
-use Rattle.stream_lists.specs.graph_base.declared.line.Kind.TheVariants.{Source, Fir, Split, Decimate, Join, Peer, Sink}
-use Rattle.stream_lists.specs.graph_base.declared.registration.Registration.{Registration}
-use Rattle.stream_lists.specs.graph_base.Graphs.{task_at, phaser_at}
-use Rattle.stream_lists.specs.graph_base.Registrations.{ends_of, as_input, as_output, no_registration}
-use Rattle.stream_lists.specs.graph_base.TaskLines.{IsGraph, HasBlock, has_blocks}
-use Rattle.stream_lists.proofs.graph_base_lemmas.Registered.{registrations-plain, length-registrations, end-input, end-output}
+use Rattle.graph_base.specs.declared.line.Kind.{Kind}
+use Rattle.graph_base.specs.declared.line.Kind.TheVariants.{Source, Fir, Split, Decimate, Join, Peer, Sink}
+use Rattle.graph_base.specs.declared.registration.Registration.{Registration}
+use Rattle.graph_base.specs.Graphs.{task_at, phaser_at}
+use Rattle.graph_base.specs.Registrations.{ends_of, as_input, as_output, no_registration}
+use Rattle.graph_base.specs.TaskLines.{IsGraph, HasBlock, has_blocks}
+use Rattle.graph_base.proofs.Registered.{registrations-plain, length-registrations, end-input, end-output}
 use Rattle.stream_lists.specs.Jobs.{Job, index_in}
 use Rattle.stream_lists.specs.Spans.{signalled_by}
 use Rattle.stream_lists.specs.Ranges.{are_made, is_out_of_range}

@@ -2,19 +2,19 @@
 -- and each task's part is the one that it has seen.
 use Rattle.std.proofs.Common.{◌≡◌, ℕ, ◌<◌, Bool, true, false, eqb, ◌||◌, List, [], ◌∷◌, Option, Some, None, is_some, length, refl, sym, ap, subst, ◌∙◌, ◌⊎◌, inl, inr}
 use Rattle.std.proofs.lemmas.Bool.{eqb-true, eq-eqb, or_right}
-use Rattle.phase_history.specs.phase_base.declared.entry.Entry.{Entry}
+use Rattle.phase_base.specs.declared.entry.Entry.{Entry}
 use Rattle.phase_history.specs.Histories.{History, IsBeginning, start_of}
 use Rattle.phase_history.specs.declared.event.Event.TheVariants.{Made}
 use Rattle.phase_history.specs.Others.{events_of, children_in, OnlyUsed, OthersCame}
-use Rattle.phase_history.specs.phase_base.Lists.{is_in}
+use Rattle.phase_base.specs.Lists.{is_in}
 use Rattle.phase_history.specs.Sent.{NamesAll, IsSilent}
 use Rattle.phase_history.proofs.Beginnings.{IsBeginning-trans}
 use Rattle.phase_history.proofs.Descent.{OnlyUsed-descent}
 use Rattle.phase_history.proofs.OthersEvents.{IsBeginning-others}
 use Rattle.phase_history.proofs.Sendings.{IsSilent-unused}
 use Rattle.phase_history.proofs.Used.{IsUsed-longer, events_of-unused}
-use Rattle.stream_lists.specs.graph_base.Graphs.{phaser_at}
-use Rattle.stream_lists.specs.graph_base.TaskLines.{IsGraph}
+use Rattle.graph_base.specs.Graphs.{phaser_at}
+use Rattle.graph_base.specs.TaskLines.{IsGraph}
 use Rattle.stream_lists.specs.Jobs.{Job}
 use Rattle.graph_runs.specs.Moments.{Moment, PhaserRan, limits_at, numbers_on}
 use Rattle.graph_runs.specs.Moves.{PartStays}

@@ -7,12 +7,12 @@ use Rattle.std.proofs.lemmas.List.FromFn.{length-map-range_with_len, get_or-map-
 use Rattle.std.proofs.lemmas.Bool.{le-leb}
 use Rattle.std.proofs.lemmas.Nat.{mod_below}
 use Rattle.phase_history.proofs.Streams.{IsPrefix-trans}
-use Rattle.stream_lists.specs.stream_filters.declared.form.Form.{Form}
-use Rattle.stream_lists.specs.stream_filters.Filter.{outputs, output_at, output_after}
-use Rattle.stream_lists.specs.graph_base.declared.line.Kind.{Kind}
-use Rattle.stream_lists.specs.graph_base.declared.line.Kind.TheVariants.{Source, Fir, Split, Decimate, Join, Peer, Sink}
-use Rattle.stream_lists.specs.graph_base.Graphs.{Task}
-use Rattle.stream_lists.specs.graph_base.TaskLines.{HasEnds, HasEvery, has_children}
+use Rattle.stream_filters.specs.declared.form.Form.{Form}
+use Rattle.stream_filters.specs.Filter.{outputs, output_at, output_after}
+use Rattle.graph_base.specs.declared.line.Kind.{Kind}
+use Rattle.graph_base.specs.declared.line.Kind.TheVariants.{Source, Fir, Split, Decimate, Join, Peer, Sink}
+use Rattle.graph_base.specs.Graphs.{Task}
+use Rattle.graph_base.specs.TaskLines.{HasEnds, HasEvery, has_children}
 use Rattle.stream_lists.specs.Spans.{turns_below, takes_from, puts_on, signalled_by, LooksAt}
 use Rattle.stream_lists.specs.Lists.{entry, every, turn_at, in_turn, mixed_at, mixed, output_list}
 use Rattle.stream_lists.proofs.ListLengths.{steps_long}

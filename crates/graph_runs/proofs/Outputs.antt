@@ -1,14 +1,14 @@
 -- The phaser of an output, and what a filter owes there.
 use Rattle.std.proofs.Common.{◌≡◌, ℕ, ◌<◌, List, ℤ, [], ◌∷◌, ◌++◌, length, ap, inl}
 use Rattle.std.specs.Prelude.{Result}
-use Rattle.stream_lists.specs.stream_filters.declared.fault.TooBigValue.{TooBigValue}
-use Rattle.stream_lists.specs.stream_filters.Range.{ranged}
-use Rattle.stream_lists.specs.stream_filters.Filter.{output_after}
-use Rattle.stream_lists.specs.graph_base.declared.line.Kind.TheVariants.{Fir}
+use Rattle.stream_filters.specs.declared.fault.TooBigValue.{TooBigValue}
+use Rattle.stream_filters.specs.Range.{ranged}
+use Rattle.stream_filters.specs.Filter.{output_after}
+use Rattle.graph_base.specs.declared.line.Kind.TheVariants.{Fir}
 use Rattle.graph_runs.specs.TaskPlaces as turns
-use Rattle.stream_lists.specs.graph_base.Graphs.{Task, task_at}
-use Rattle.stream_lists.specs.graph_base.TaskLines.{IsGraph}
-use Rattle.stream_lists.specs.graph_base.Registrations.{signalled_by}
+use Rattle.graph_base.specs.Graphs.{Task, task_at}
+use Rattle.graph_base.specs.TaskLines.{IsGraph}
+use Rattle.graph_base.specs.Registrations.{signalled_by}
 use Rattle.stream_lists.specs.Jobs.{Job}
 use Rattle.graph_runs.proofs.OnLines.{on_phaser}
 use Rattle.graph_runs.proofs.PlacesLemmas.{place_of_output}

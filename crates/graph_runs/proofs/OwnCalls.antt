@@ -4,19 +4,19 @@ use Rattle.std.proofs.lemmas.Bool.{eq-eqb, eqb-true}
 use Rattle.std.proofs.lemmas.List.{append-nil}
 use Rattle.std.proofs.lemmas.List.Elements.{All-nil, All-append}
 use Rattle.std.proofs.lemmas.Option.{same_Some}
-use Rattle.phase_history.specs.phase_accum.declared.outcome.Outcome.{Outcome}
-use Rattle.phase_history.specs.phase_accum.declared.single.Single.{Single}
-use Rattle.phase_history.specs.phase_base.declared.mode.Mode.{Mode}
+use Rattle.phase_accum.specs.declared.outcome.Outcome.{Outcome}
+use Rattle.phase_accum.specs.declared.single.Single.{Single}
+use Rattle.phase_base.specs.declared.mode.Mode.{Mode}
 use Rattle.phase_history.specs.declared.event.Event.{Event}
 use Rattle.phase_history.specs.declared.event.Event.TheVariants.{Registered, RegisteredNow, Waited, Dropped}
 use Rattle.phase_history.specs.Histories.{History}
 use Rattle.phase_history.specs.Phases.{received_by}
 use Rattle.phase_history.specs.Others.{events_of, children_in, OthersCame}
-use Rattle.phase_history.specs.phase_base.Lists.{is_in}
+use Rattle.phase_base.specs.Lists.{is_in}
 use Rattle.phase_history.specs.Sent.{NamesAll}
 use Rattle.phase_history.proofs.OthersEvents.{received_by-others}
-use Rattle.stream_lists.specs.graph_base.declared.line.Parent.{Parent}
-use Rattle.stream_lists.specs.graph_base.Graphs.{task_at, phaser_at}
+use Rattle.graph_base.specs.declared.line.Parent.{Parent}
+use Rattle.graph_base.specs.Graphs.{task_at, phaser_at}
 use Rattle.stream_lists.specs.Jobs.{Job}
 use Rattle.stream_lists.specs.Ranges.{is_too_big}
 use Rattle.graph_runs.specs.Moments.{Moment, value_at}

@@ -8,19 +8,19 @@ use Rattle.std.proofs.lemmas.Option.{same_Some}
 use Rattle.std.proofs.lemmas.List.FromFn.{length-map-range_with_len}
 use Rattle.phase_history.specs.declared.event.Event.{Event}
 use Rattle.phase_history.specs.Histories.{History, has_dropped, start_of}
-use Rattle.phase_history.specs.phase_base.declared.entry.Entry.{Entry}
+use Rattle.phase_base.specs.declared.entry.Entry.{Entry}
 use Rattle.phase_history.specs.Phases.{received_by}
 use Rattle.phase_history.specs.Sent.{sent_by, IsSilent}
 use Rattle.phase_history.specs.declared.event.Event.TheVariants.{Signalled, Waited}
-use Rattle.phase_history.specs.phase_accum.declared.outcome.Outcome.{Outcome}
-use Rattle.stream_lists.specs.graph_base.declared.line.Parent.{Parent}
-use Rattle.stream_lists.specs.graph_base.Graphs.{task_at, Task, phaser_at}
-use Rattle.stream_lists.specs.graph_base.TaskLines.{IsGraph, IsTaskLine}
+use Rattle.phase_accum.specs.declared.outcome.Outcome.{Outcome}
+use Rattle.graph_base.specs.declared.line.Parent.{Parent}
+use Rattle.graph_base.specs.Graphs.{task_at, Task, phaser_at}
+use Rattle.graph_base.specs.TaskLines.{IsGraph, IsTaskLine}
 use Rattle.stream_lists.specs.Jobs.{Job, samples_at, index_in}
 use Rattle.stream_lists.specs.Lists.{output_list, number}
 use Rattle.stream_lists.specs.Spans.{signalled_by}
-use Rattle.stream_lists.specs.graph_base.declared.line.Kind.{Kind}
-use Rattle.stream_lists.specs.graph_base.declared.line.Kind.TheVariants.{Source, Fir, Split, Decimate, Join, Peer, Sink}
+use Rattle.graph_base.specs.declared.line.Kind.{Kind}
+use Rattle.graph_base.specs.declared.line.Kind.TheVariants.{Source, Fir, Split, Decimate, Join, Peer, Sink}
 use Rattle.stream_lists.proofs.Growing.{map-same}
 use Rattle.stream_lists.proofs.SpansAbove.{parent-is}
 use Rattle.stream_lists.proofs.Ordered.{place-at, place_of_input}

@@ -3,12 +3,12 @@ use Rattle.std.proofs.Common.{◌≡◌, ℕ, ◌+◌, ◌<◌, ◌≤◌, true,
 use Rattle.std.proofs.lemmas.Option.{slice_get-get_or}
 use Rattle.std.proofs.lemmas.List.{length-map, get_or-map, length-append}
 use Rattle.phase_history.specs.Others.{IsUsed}
-use Rattle.stream_lists.specs.graph_base.declared.line.Kind.{Kind}
-use Rattle.stream_lists.specs.graph_base.declared.line.Kind.TheVariants.{Source, Fir, Split, Decimate, Join, Peer, Sink}
-use Rattle.stream_lists.specs.graph_base.Graphs.{task_at}
-use Rattle.stream_lists.specs.graph_base.Registrations.{no_registration}
-use Rattle.stream_lists.specs.graph_base.TaskLines.{IsGraph, HasEnds}
-use Rattle.stream_lists.proofs.graph_base_lemmas.Registered.{registrations-phasers}
+use Rattle.graph_base.specs.declared.line.Kind.{Kind}
+use Rattle.graph_base.specs.declared.line.Kind.TheVariants.{Source, Fir, Split, Decimate, Join, Peer, Sink}
+use Rattle.graph_base.specs.Graphs.{task_at}
+use Rattle.graph_base.specs.Registrations.{no_registration}
+use Rattle.graph_base.specs.TaskLines.{IsGraph, HasEnds}
+use Rattle.graph_base.proofs.Registered.{registrations-phasers}
 use Rattle.stream_lists.specs.Jobs.{Job}
 use Rattle.graph_runs.specs.Moments.{Moment, TaskRan, OnLine, PutOn, TakenOn, OnOutput, OnInput}
 use Rattle.graph_runs.proofs.OnLines.{on_phaser}

@@ -3,11 +3,11 @@ use Rattle.std.proofs.Common.{◌≡◌, ◌≢◌, ℕ, ◌+◌, ◌<◌, true,
 use Rattle.std.specs.Prelude.{is_some}
 use Rattle.std.proofs.lemmas.Bool.{ne_eqb, eq-eqb}
 use Rattle.std.proofs.lemmas.List.{length-map}
-use Rattle.phase_history.specs.phase_accum.declared.outcome.Outcome.{Outcome}
+use Rattle.phase_accum.specs.declared.outcome.Outcome.{Outcome}
 use Rattle.phase_history.specs.declared.event.Event.{Event}
 use Rattle.phase_history.specs.declared.event.Event.TheVariants.{Waited, Dropped}
-use Rattle.phase_history.specs.phase_base.declared.entry.Entry.{Entry}
-use Rattle.phase_history.specs.phase_base.Members.{entry_of}
+use Rattle.phase_base.specs.declared.entry.Entry.{Entry}
+use Rattle.phase_base.specs.Members.{entry_of}
 use Rattle.phase_history.specs.declared.got.Got.TheVariants.{Ended}
 use Rattle.phase_history.specs.Histories.{History, IsBeginning, HasNoSignaller, has_dropped, start_of, members_of, wait_phase, phases_waited}
 use Rattle.phase_history.specs.Replies.{wait_reply}
@@ -22,8 +22,8 @@ use Rattle.stream_lists.specs.Lists.{number}
 use Rattle.phase_history.specs.Phases.{received_by}
 use Rattle.phase_history.specs.Legal.{IsLegal, IsAccepted}
 use Rattle.phase_history.proofs.Beginnings.{IsBeginning-refl}
-use Rattle.stream_lists.specs.graph_base.Graphs.{task_at}
-use Rattle.stream_lists.specs.graph_base.TaskLines.{IsGraph}
+use Rattle.graph_base.specs.Graphs.{task_at}
+use Rattle.graph_base.specs.TaskLines.{IsGraph}
 use Rattle.stream_lists.specs.Jobs.{Job}
 use Rattle.graph_runs.specs.Moments.{Moment, TaskRan, OnLine, OnInput, RanOut, HasEnded, limits_at, value_at, input_at}
 use Rattle.graph_runs.specs.Moves.{further, SameTask, HasGrown, OthersMoved, PartStays, IsStaying, MayBeginTo, HasMoved, SignalsAll, WaitsAll, NoneDue}

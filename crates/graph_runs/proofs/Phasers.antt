@@ -2,15 +2,15 @@
 use Rattle.std.proofs.Common.{◌≡◌, ℕ, ◌<◌, ◌≤◌, Bool, true, false, ◌||◌, cond, eqb, List, [], ◌∷◌, Option, Some, None, ℤ, length, refl, sym, ap, ◌∙◌, arith}
 use Rattle.std.specs.List.{range_with_len}
 use Rattle.std.proofs.lemmas.Bool.{eq-eqb}
-use Rattle.phase_history.specs.phase_accum.Values.{applied}
+use Rattle.phase_accum.specs.Values.{applied}
 use Rattle.phase_history.specs.Histories.{History, done_of, top_of}
 use Rattle.phase_history.specs.Phases.{sends_of_phase, single_of_phase, value_of_phase}
-use Rattle.phase_history.specs.phase_base.Lists.{is_in}
+use Rattle.phase_base.specs.Lists.{is_in}
 use Rattle.phase_history.specs.Sent.{gathered, IsSilent}
 use Rattle.phase_history.proofs.Steps.{done_below_top, sound_of}
 use Rattle.phase_history.proofs.Sendings.{single_of_phase-all}
-use Rattle.stream_lists.specs.graph_base.Graphs.{task_at, phaser_at}
-use Rattle.stream_lists.specs.graph_base.TaskLines.{IsGraph}
+use Rattle.graph_base.specs.Graphs.{task_at, phaser_at}
+use Rattle.graph_base.specs.TaskLines.{IsGraph}
 use Rattle.stream_lists.specs.Jobs.{Job, index_in}
 use Rattle.stream_lists.specs.Spans.{signalled_by, greatest, span_in, schedule_of}
 use Rattle.stream_lists.specs.Lists.{Contribution, contributions_on, contribution_at, contribution_by, phase_in, numbers_of, output_on, ends_on}

@@ -5,10 +5,10 @@ use Rattle.std.proofs.lemmas.Bool.{eq-eqb, cases_lt, le-ltb, lt-ltb}
 use Rattle.std.proofs.lemmas.Option.{same_Some, slice_get-get_or, slice_get_past}
 use Rattle.phase_history.specs.declared.event.Event.TheVariants.{Signalled, Waited, Dropped}
 use Rattle.phase_history.specs.Histories.{has_dropped, greatest_used}
-use Rattle.stream_lists.specs.graph_base.declared.registration.Registration.{Registration}
-use Rattle.stream_lists.specs.graph_base.Graphs.{phaser_at}
-use Rattle.stream_lists.specs.graph_base.Registrations.{no_registration}
-use Rattle.stream_lists.specs.graph_base.TaskLines.{IsGraph}
+use Rattle.graph_base.specs.declared.registration.Registration.{Registration}
+use Rattle.graph_base.specs.Graphs.{phaser_at}
+use Rattle.graph_base.specs.Registrations.{no_registration}
+use Rattle.graph_base.specs.TaskLines.{IsGraph}
 use Rattle.stream_lists.specs.Jobs.{Job}
 use Rattle.phase_history.specs.Legal.{IsLegal}
 use Rattle.graph_runs.specs.Moments.{one, Moment, HasRun, limits_at}

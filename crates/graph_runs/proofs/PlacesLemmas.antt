@@ -5,12 +5,12 @@ use Rattle.std.specs.List.{find, list_any}
 use Rattle.std.proofs.lemmas.Bool.{and_parts}
 use Rattle.std.proofs.lemmas.Option.{same_Some}
 use Rattle.std.proofs.lemmas.List.{append-nil, length-map, get_or-map, length-append, get_or-append_right, get_or_append_left}
-use Rattle.stream_lists.specs.graph_base.Graphs.{Graph, Task, task_at}
-use Rattle.stream_lists.specs.graph_base.TaskLines.{IsTaskLine}
-use Rattle.phase_history.specs.phase_base.Lists.{is_distinct}
-use Rattle.stream_lists.specs.graph_base.Registrations.{no_registration}
-use Rattle.stream_lists.specs.graph_base.declared.line.Kind.{Kind}
-use Rattle.stream_lists.specs.graph_base.declared.line.Kind.TheVariants.{Source, Fir, Split, Decimate, Join, Peer, Sink}
+use Rattle.graph_base.specs.Graphs.{Graph, Task, task_at}
+use Rattle.graph_base.specs.TaskLines.{IsTaskLine}
+use Rattle.phase_base.specs.Lists.{is_distinct}
+use Rattle.graph_base.specs.Registrations.{no_registration}
+use Rattle.graph_base.specs.declared.line.Kind.{Kind}
+use Rattle.graph_base.specs.declared.line.Kind.TheVariants.{Source, Fir, Split, Decimate, Join, Peer, Sink}
 use Rattle.stream_lists.specs.Jobs.{Job, index_in}
 use Rattle.stream_lists.specs.Spans.{signalled_by}
 use Rattle.stream_lists.proofs.Ordered.{place-at, place-distinct}

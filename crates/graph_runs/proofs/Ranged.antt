@@ -3,27 +3,27 @@ use Rattle.std.proofs.Common.{◌≡◌, ℕ, zero, suc, ◌+◌, ◌-◌, ◌<�
 use Rattle.std.specs.Prelude.{unsigned_abs}
 use Rattle.std.specs.List.{range_with_len}
 use Rattle.std.proofs.lemmas.Bool.{le-leb}
-use Rattle.phase_history.specs.phase_base.Limits.{Limits}
-use Rattle.phase_history.specs.phase_base.declared.operation.Op.{Op}
-use Rattle.phase_history.specs.phase_base.declared.operation.Op.TheVariants.{Sum, Product, Least, Greatest, Any}
-use Rattle.phase_history.specs.phase_accum.declared.outcome.Outcome.{Outcome}
-use Rattle.phase_history.specs.phase_accum.declared.outcome.Outcome.TheVariants.{Value, Empty, TooBig}
-use Rattle.phase_history.specs.phase_accum.Sends.{AreSends, value_max}
-use Rattle.phase_history.specs.phase_accum.Values.{IsInRange}
-use Rattle.phase_history.specs.phase_accum.Sums.{sum_operation, sum_laws}
-use Rattle.phase_history.specs.phase_accum.Products.{product_operation, product_laws}
-use Rattle.phase_history.specs.phase_accum.Leasts.{least_operation, least_laws}
-use Rattle.phase_history.specs.phase_accum.Greatests.{greatest_operation, greatest_laws}
-use Rattle.phase_history.specs.phase_accum.Anys.{any_operation, any_laws}
+use Rattle.phase_base.specs.Limits.{Limits}
+use Rattle.phase_base.specs.declared.operation.Op.{Op}
+use Rattle.phase_base.specs.declared.operation.Op.TheVariants.{Sum, Product, Least, Greatest, Any}
+use Rattle.phase_accum.specs.declared.outcome.Outcome.{Outcome}
+use Rattle.phase_accum.specs.declared.outcome.Outcome.TheVariants.{Value, Empty, TooBig}
+use Rattle.phase_accum.specs.Sends.{AreSends, value_max}
+use Rattle.phase_accum.specs.Values.{IsInRange}
+use Rattle.phase_accum.specs.Sums.{sum_operation, sum_laws}
+use Rattle.phase_accum.specs.Products.{product_operation, product_laws}
+use Rattle.phase_accum.specs.Leasts.{least_operation, least_laws}
+use Rattle.phase_accum.specs.Greatests.{greatest_operation, greatest_laws}
+use Rattle.phase_accum.specs.Anys.{any_operation, any_laws}
 use Rattle.phase_history.specs.Histories.{History, done_of, phases_waited}
 use Rattle.phase_history.specs.Phases.{value_of_phase, stream_of}
 use Rattle.phase_history.specs.Legal.{IsLegal}
 use Rattle.phase_history.proofs.InRange.{value_of_phase-in_range}
 use Rattle.phase_history.proofs.Left.{received_law}
-use Rattle.stream_lists.specs.graph_base.declared.line.Kind.{Kind}
-use Rattle.stream_lists.specs.graph_base.declared.line.Kind.TheVariants.{Source, Fir, Split, Decimate, Join, Peer, Sink}
-use Rattle.stream_lists.specs.graph_base.Graphs.{Task, task_at, phaser_at}
-use Rattle.stream_lists.specs.graph_base.TaskLines.{IsGraph}
+use Rattle.graph_base.specs.declared.line.Kind.{Kind}
+use Rattle.graph_base.specs.declared.line.Kind.TheVariants.{Source, Fir, Split, Decimate, Join, Peer, Sink}
+use Rattle.graph_base.specs.Graphs.{Task, task_at, phaser_at}
+use Rattle.graph_base.specs.TaskLines.{IsGraph}
 use Rattle.stream_lists.specs.Jobs.{Job, samples_at}
 use Rattle.stream_lists.specs.Lists.{value_by, number, every, in_turn}
 use Rattle.stream_lists.specs.Ranges.{are_made, is_out_of_range}

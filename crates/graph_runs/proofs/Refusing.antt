@@ -3,14 +3,14 @@ use Rattle.std.proofs.Common.{◌≡◌, ℕ, ◌+◌, ◌<◌, ◌≤◌, Bool,
 use Rattle.std.specs.Prelude.{nat_le, nat_lt}
 use Rattle.std.proofs.lemmas.Bool.{and_right, and_cases, le-ltb, lt-leb, leb-false, not_from_true}
 use Rattle.std.proofs.lemmas.Bool.Decides.{Decides-int_eq}
-use Rattle.phase_history.specs.phase_base.Members.{least, wait_phases}
-use Rattle.phase_history.specs.phase_base.Modes.{holds, mode_signals, mode_waits, is_single}
-use Rattle.phase_history.specs.phase_base.declared.entry.Entry.{Entry}
-use Rattle.phase_history.specs.phase_base.declared.limits.TheConstants.{MEMBERS_MAX, SENDS_MAX}
-use Rattle.phase_history.specs.phase_base.declared.mode.Mode.{Mode}
-use Rattle.phase_history.specs.phase_accum.declared.single.Single.{Single}
-use Rattle.phase_history.specs.phase_accum.declared.single.Single.TheVariants.{Neg, Abs, Halve, Clamp}
-use Rattle.phase_history.specs.phase_accum.Singles.{differs, is_same}
+use Rattle.phase_base.specs.Members.{least, wait_phases}
+use Rattle.phase_base.specs.Modes.{holds, mode_signals, mode_waits, is_single}
+use Rattle.phase_base.specs.declared.entry.Entry.{Entry}
+use Rattle.phase_base.specs.declared.limits.TheConstants.{MEMBERS_MAX, SENDS_MAX}
+use Rattle.phase_base.specs.declared.mode.Mode.{Mode}
+use Rattle.phase_accum.specs.declared.single.Single.{Single}
+use Rattle.phase_accum.specs.declared.single.Single.TheVariants.{Neg, Abs, Halve, Clamp}
+use Rattle.phase_accum.specs.Singles.{differs, is_same}
 use Rattle.phase_history.specs.declared.event.Event.TheVariants.{Made, Registered, RegisteredNow, Signalled, Waited, Dropped}
 use Rattle.phase_history.specs.declared.refusal.SignalRefusal.{SignalRefusal}
 use Rattle.phase_history.specs.declared.refusal.SignalRefusal.TheVariants as signal
@@ -19,12 +19,12 @@ use Rattle.phase_history.specs.declared.refusal.RegisterRefusal.TheVariants as r
 use Rattle.phase_history.specs.Histories.{History, positions_of, members_of, done_of, signal_phase, wait_phase, greatest_used}
 use Rattle.phase_history.specs.Phases.{sends_of_phase, named_in_phase, first_named, is_among}
 use Rattle.phase_history.specs.Refusals.{signal_refusal, register_refusal, wait_refusal, wait_rows, refusal_at, is_ahead, is_bad_block}
-use Rattle.phase_history.specs.phase_base.Lists.{first_row}
-use Rattle.phase_history.specs.phase_base.Limits.{Limits}
+use Rattle.phase_base.specs.Lists.{first_row}
+use Rattle.phase_base.specs.Limits.{Limits}
 use Rattle.phase_history.specs.Sent.{NamesAll}
 use Rattle.phase_history.proofs.Steps.{member_entry_is}
-use Rattle.stream_lists.specs.graph_base.Graphs.{phaser_at}
-use Rattle.stream_lists.specs.graph_base.TaskLines.{IsGraph}
+use Rattle.graph_base.specs.Graphs.{phaser_at}
+use Rattle.graph_base.specs.TaskLines.{IsGraph}
 use Rattle.stream_lists.specs.Jobs.{Job}
 use Rattle.graph_runs.specs.Moments.{Moment, HasRun, limits_at}
 use Rattle.graph_runs.specs.Nexts.{has_signaller}

@@ -6,10 +6,10 @@ use Rattle.std.proofs.lemmas.List.FromFn.{length-map-range_with_len}
 use Rattle.std.proofs.lemmas.Bool.{cases_Bool}
 use Rattle.phase_history.specs.Histories.{done_of, HasNoSignaller}
 use Rattle.phase_history.specs.Phases.{stream_of, value_of_phase}
-use Rattle.stream_lists.specs.graph_base.declared.line.Kind.TheVariants.{Sink}
-use Rattle.stream_lists.specs.graph_base.declared.line.Parent.{Parent}
-use Rattle.stream_lists.specs.graph_base.Graphs.{Task, task_at}
-use Rattle.stream_lists.specs.graph_base.TaskLines.{IsParent}
+use Rattle.graph_base.specs.declared.line.Kind.TheVariants.{Sink}
+use Rattle.graph_base.specs.declared.line.Parent.{Parent}
+use Rattle.graph_base.specs.Graphs.{Task, task_at}
+use Rattle.graph_base.specs.TaskLines.{IsParent}
 use Rattle.stream_lists.specs.declared.span.Span.{Span}
 use Rattle.stream_lists.specs.Jobs.{Job, samples_at, start_at, index_in}
 use Rattle.stream_lists.specs.Spans.{spans_of, lengths_of, span_at, span_in, offset_of, takes_from, signalled_by, LooksAt, schedule_of}

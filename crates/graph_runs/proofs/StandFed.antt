@@ -2,8 +2,8 @@
 use Rattle.std.proofs.Common.{◌≡◌, ℕ, ℤ, ◌<◌, true, List, Option, Some, None, length, refl, sym, ap, subst, ◌∙◌, inr}
 use mathlib.Core.List.{IsPrefix}
 use Rattle.phase_history.specs.Histories.{has_dropped}
-use Rattle.stream_lists.specs.graph_base.Graphs.{task_at}
-use Rattle.stream_lists.specs.graph_base.TaskLines.{IsGraph}
+use Rattle.graph_base.specs.Graphs.{task_at}
+use Rattle.graph_base.specs.TaskLines.{IsGraph}
 use Rattle.graph_runs.proofs.OnLines.{on_phaser}
 use Rattle.stream_lists.specs.Jobs.{index_in, Job, samples_at, with_samples}
 use Rattle.stream_lists.specs.Spans.{signalled_by}

@@ -4,10 +4,10 @@ use Rattle.std.specs.List.{range_with_len, fold}
 use Rattle.std.proofs.lemmas.List.FromFn.{length-map-range_with_len, get_or-map-range_with_len}
 use Rattle.std.proofs.lemmas.Nat.{mod_below}
 use Rattle.std.proofs.lemmas.Option.{same_Some}
-use Rattle.stream_lists.specs.graph_base.declared.line.Kind.{Kind}
-use Rattle.stream_lists.specs.graph_base.declared.line.Kind.TheVariants.{Source, Fir, Split, Decimate, Join, Peer, Sink}
-use Rattle.stream_lists.specs.graph_base.Graphs.{Task}
-use Rattle.stream_lists.specs.graph_base.TaskLines.{HasEnds}
+use Rattle.graph_base.specs.declared.line.Kind.{Kind}
+use Rattle.graph_base.specs.declared.line.Kind.TheVariants.{Source, Fir, Split, Decimate, Join, Peer, Sink}
+use Rattle.graph_base.specs.Graphs.{Task}
+use Rattle.graph_base.specs.TaskLines.{HasEnds}
 use Rattle.stream_lists.specs.Spans.{turns_below, takes_from, run_out, first_run_out, enough_for, cut_at, LooksAt}
 use Rattle.graph_runs.specs.Moments.{first_input, HasTaken, HasSamples, AtMost}
 use Rattle.graph_runs.proofs.TurnsLemmas.{turns-mono, turns-before, turns-after}

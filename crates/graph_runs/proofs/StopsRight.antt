@@ -1,7 +1,7 @@
 -- A run that is stopped has one moment, and that is right whatever comes.
 use Rattle.std.proofs.Common.{◌≡◌, ℕ, ℤ, ◌<◌, Bool, true, List, Some, length, sym, ap, subst, ◌∙◌}
 use Rattle.phase_history.specs.Histories.{History, has_dropped}
-use Rattle.stream_lists.specs.graph_base.TaskLines.{IsGraph}
+use Rattle.graph_base.specs.TaskLines.{IsGraph}
 use Rattle.stream_lists.specs.Jobs.{Job, with_samples}
 use Rattle.graph_runs.specs.Feeds.{IsOpenAt}
 use Rattle.graph_runs.specs.TaskEnds.{FounderEnd}

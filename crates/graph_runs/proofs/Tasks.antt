@@ -5,19 +5,19 @@ use Rattle.std.proofs.lemmas.List.{length-map, length-drop, get_or-map}
 use Rattle.std.proofs.lemmas.List.FromFn.{length-map-range_with_len, get_or-map-range_with_len}
 use Rattle.std.proofs.lemmas.Bool.{le-leb}
 use Rattle.std.proofs.lemmas.Nat.{mod_below}
-use Rattle.phase_history.specs.phase_accum.declared.outcome.Outcome.{Outcome}
-use Rattle.phase_history.specs.phase_accum.declared.outcome.Outcome.TheVariants.{Empty}
+use Rattle.phase_accum.specs.declared.outcome.Outcome.{Outcome}
+use Rattle.phase_accum.specs.declared.outcome.Outcome.TheVariants.{Empty}
 use Rattle.phase_history.specs.Histories.{done_of, phases_waited}
 use Rattle.phase_history.specs.Phases.{value_of_phase, stream_of}
 use Rattle.phase_history.specs.Laws.{HasReceivedFrom}
 use Rattle.phase_history.proofs.Left.{received_law}
 use Rattle.phase_history.proofs.Streams.{prefix_of_values}
 use Rattle.phase_history.proofs.Received.{part_of_longer}
-use Rattle.stream_lists.specs.graph_base.declared.line.Kind.{Kind}
-use Rattle.stream_lists.specs.graph_base.declared.line.Kind.TheVariants.{Source, Fir, Split, Decimate, Join, Peer, Sink}
-use Rattle.stream_lists.specs.graph_base.declared.line.Parent.{Parent}
-use Rattle.stream_lists.specs.graph_base.Graphs.{Task, task_at}
-use Rattle.stream_lists.specs.graph_base.TaskLines.{IsGraph, IsTaskLine, HasEnds}
+use Rattle.graph_base.specs.declared.line.Kind.{Kind}
+use Rattle.graph_base.specs.declared.line.Kind.TheVariants.{Source, Fir, Split, Decimate, Join, Peer, Sink}
+use Rattle.graph_base.specs.declared.line.Parent.{Parent}
+use Rattle.graph_base.specs.Graphs.{Task, task_at}
+use Rattle.graph_base.specs.TaskLines.{IsGraph, IsTaskLine, HasEnds}
 use Rattle.stream_lists.specs.declared.span.Span.{Span}
 use Rattle.stream_lists.specs.Jobs.{Job, samples_at}
 use Rattle.stream_lists.specs.Spans.{spans_of, lengths_of, span_at, span_in, offset_of, cut_at, enough_for, values_from, takes_from, signalled_by, puts_on, LooksAt, schedule_of}

@@ -5,15 +5,15 @@ use Rattle.std.proofs.lemmas.List.{length-take, length-take-le, length-drop}
 use Rattle.std.specs.List.{find, range_with_len}
 use Rattle.std.proofs.lemmas.Bool.{and_parts, and_cases, leb-false, ltb-false, cases_lt, not_from_false, or_parts}
 use Rattle.std.proofs.lemmas.Option.{same_Some}
-use Rattle.phase_history.specs.phase_base.Members.{signal_phases}
-use Rattle.phase_history.specs.phase_accum.Sends.{AreSends}
+use Rattle.phase_base.specs.Members.{signal_phases}
+use Rattle.phase_accum.specs.Sends.{AreSends}
 use Rattle.phase_history.specs.Histories.{members_of, done_of, HasNoSignaller}
 use Rattle.phase_history.specs.Phases.{stream_of}
 use Rattle.phase_history.proofs.Signallers.{all_dropped}
-use Rattle.stream_lists.specs.graph_base.declared.line.Kind.{Kind}
-use Rattle.stream_lists.specs.graph_base.declared.line.Kind.TheVariants.{Source, Fir, Split, Decimate, Join, Peer, Sink}
-use Rattle.stream_lists.specs.graph_base.Graphs.{task_at}
-use Rattle.stream_lists.specs.graph_base.TaskLines.{IsGraph}
+use Rattle.graph_base.specs.declared.line.Kind.{Kind}
+use Rattle.graph_base.specs.declared.line.Kind.TheVariants.{Source, Fir, Split, Decimate, Join, Peer, Sink}
+use Rattle.graph_base.specs.Graphs.{task_at}
+use Rattle.graph_base.specs.TaskLines.{IsGraph}
 use Rattle.stream_lists.specs.Jobs.{Job, samples_at, index_in}
 use Rattle.stream_lists.specs.Spans.{signalled_by, puts_on}
 use Rattle.stream_lists.specs.Ranges.{is_out_of_range}

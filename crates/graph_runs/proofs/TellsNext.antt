@@ -4,15 +4,15 @@ use Rattle.std.specs.Prelude.{Result, Ok, Err, nat_le, unwrap_or, unsigned_abs}
 use Rattle.std.proofs.lemmas.Bool.{cases_lt, eq-eqb, le-ltb}
 use Rattle.std.proofs.lemmas.List.{length-map, length-take, length-drop, get_or-map}
 use Rattle.std.proofs.lemmas.Option.{slice_get_past}
-use Rattle.stream_lists.specs.stream_filters.Range.{ranged}
-use Rattle.stream_lists.specs.stream_filters.declared.fault.TooBigValue.{TooBigValue}
+use Rattle.stream_filters.specs.Range.{ranged}
+use Rattle.stream_filters.specs.declared.fault.TooBigValue.{TooBigValue}
 use Rattle.phase_history.specs.Histories.{has_dropped}
-use Rattle.stream_lists.specs.graph_base.declared.line.Kind.{Kind}
-use Rattle.stream_lists.specs.graph_base.declared.line.Kind.TheVariants.{Source, Fir, Split, Decimate, Join, Peer, Sink}
-use Rattle.stream_lists.specs.graph_base.Graphs.{task_at}
-use Rattle.stream_lists.specs.graph_base.Registrations.{no_registration}
-use Rattle.stream_lists.specs.graph_base.TaskLines.{IsGraph}
-use Rattle.stream_lists.proofs.graph_base_lemmas.Registered.{registrations-phasers}
+use Rattle.graph_base.specs.declared.line.Kind.{Kind}
+use Rattle.graph_base.specs.declared.line.Kind.TheVariants.{Source, Fir, Split, Decimate, Join, Peer, Sink}
+use Rattle.graph_base.specs.Graphs.{task_at}
+use Rattle.graph_base.specs.Registrations.{no_registration}
+use Rattle.graph_base.specs.TaskLines.{IsGraph}
+use Rattle.graph_base.proofs.Registered.{registrations-phasers}
 use Rattle.stream_lists.specs.Jobs.{Job, samples_at}
 use Rattle.stream_lists.specs.Spans.{signalled_by, puts_on}
 use Rattle.graph_runs.specs.Moments.{Moment, AtMost, TaskRan, HasEnded, MayStop, at_until, no_sample, no_input, RanOut, HasSamples, OnLine, made_now, input_at, first_input}

@@ -5,20 +5,20 @@ use Rattle.std.specs.List.{find}
 use Rattle.std.proofs.lemmas.Bool.{eqb-true, eq-eqb, ne_eqb}
 use Rattle.std.proofs.lemmas.Option.{same_Some}
 use Rattle.std.proofs.lemmas.List.{length-append, length-map, get_or-map, get_or_append_left}
-use Rattle.phase_history.specs.phase_base.Members.{member}
-use Rattle.phase_history.specs.phase_base.declared.entry.Entry.{Entry}
-use Rattle.phase_history.specs.phase_base.declared.mode.Mode.TheVariants.{Wait}
+use Rattle.phase_base.specs.Members.{member}
+use Rattle.phase_base.specs.declared.entry.Entry.{Entry}
+use Rattle.phase_base.specs.declared.mode.Mode.TheVariants.{Wait}
 use Rattle.phase_history.specs.declared.event.Event.TheVariants.{RegisteredNow}
 use Rattle.phase_history.specs.Histories.{members_of, start_of, signal_phase, entry_at, done_of, has_dropped}
 use Rattle.phase_history.proofs.Used.{start_from, start_of-longer}
-use Rattle.stream_lists.specs.graph_base.declared.line.Kind.{Kind}
-use Rattle.stream_lists.specs.graph_base.declared.line.Kind.TheVariants.{Sink}
-use Rattle.stream_lists.specs.graph_base.declared.line.Parent.{Parent}
-use Rattle.stream_lists.specs.graph_base.declared.registration.Registration.{Registration}
-use Rattle.stream_lists.specs.graph_base.Graphs.{task_at}
-use Rattle.stream_lists.specs.graph_base.Registrations.{no_registration}
-use Rattle.stream_lists.specs.graph_base.TaskLines.{IsGraph, IsTaskLine, IsParent, HasEnds}
-use Rattle.stream_lists.proofs.graph_base_lemmas.Registered.{registrations-phasers}
+use Rattle.graph_base.specs.declared.line.Kind.{Kind}
+use Rattle.graph_base.specs.declared.line.Kind.TheVariants.{Sink}
+use Rattle.graph_base.specs.declared.line.Parent.{Parent}
+use Rattle.graph_base.specs.declared.registration.Registration.{Registration}
+use Rattle.graph_base.specs.Graphs.{task_at}
+use Rattle.graph_base.specs.Registrations.{no_registration}
+use Rattle.graph_base.specs.TaskLines.{IsGraph, IsTaskLine, IsParent, HasEnds}
+use Rattle.graph_base.proofs.Registered.{registrations-phasers}
 use Rattle.stream_lists.specs.Jobs.{Job}
 use Rattle.stream_lists.specs.Spans.{signalled_by}
 use Rattle.stream_lists.proofs.Growing.{filter_map-same}

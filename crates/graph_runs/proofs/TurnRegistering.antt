@@ -2,21 +2,21 @@
 use Rattle.std.proofs.Common.{◌≡◌, ◌≢◌, ℕ, zero, suc, ◌+◌, [], ◌∷◌, ◌-◌, ◌<◌, ◌≤◌, Bool, true, false, not, eqb, Option, Some, None, is_some, length, get_or, refl, sym, ap, subst, ◌∙◌, arith, ◌⊎◌, inl, inr}
 use Rattle.std.proofs.lemmas.Bool.{and_parts, eqb-true, cases_lt}
 use Rattle.std.proofs.lemmas.List.{length-map, length-append}
-use Rattle.phase_history.specs.phase_base.Modes.{mode_signals, mode_waits}
+use Rattle.phase_base.specs.Modes.{mode_signals, mode_waits}
 use Rattle.phase_history.specs.Histories.{greatest_used}
-use Rattle.phase_history.specs.phase_base.declared.mode.Mode.{Mode}
-use Rattle.phase_history.specs.phase_base.declared.mode.Mode.TheVariants.{Wait}
+use Rattle.phase_base.specs.declared.mode.Mode.{Mode}
+use Rattle.phase_base.specs.declared.mode.Mode.TheVariants.{Wait}
 use Rattle.phase_history.specs.Refusals.{register_refusal, register_now_refusal}
-use Rattle.stream_lists.specs.graph_base.declared.line.Kind.{Kind}
-use Rattle.stream_lists.specs.graph_base.declared.line.Kind.TheVariants.{Source, Fir, Split, Decimate, Join, Peer, Sink}
-use Rattle.stream_lists.specs.graph_base.declared.line.Parent.{Parent}
-use Rattle.stream_lists.specs.graph_base.declared.registration.Registration.{Registration}
-use Rattle.phase_history.specs.phase_accum.declared.single.Single.{Single}
-use Rattle.stream_lists.specs.graph_base.declared.line.PhaserLine.{PhaserLine}
-use Rattle.stream_lists.specs.graph_base.Graphs.{Task, task_at, phaser_at}
-use Rattle.stream_lists.specs.graph_base.Registrations.{ends_of, as_input, as_output, as_exchange, exchange_mode, no_registration}
-use Rattle.stream_lists.specs.graph_base.TaskLines.{IsGraph, IsTaskLine, HasEnds, IsExchangeBelow, has_children, IsParent}
-use Rattle.stream_lists.proofs.graph_base_lemmas.Registered.{registrations-phasers, registrations-plain, length-registrations, end-input, end-output}
+use Rattle.graph_base.specs.declared.line.Kind.{Kind}
+use Rattle.graph_base.specs.declared.line.Kind.TheVariants.{Source, Fir, Split, Decimate, Join, Peer, Sink}
+use Rattle.graph_base.specs.declared.line.Parent.{Parent}
+use Rattle.graph_base.specs.declared.registration.Registration.{Registration}
+use Rattle.phase_accum.specs.declared.single.Single.{Single}
+use Rattle.graph_base.specs.declared.line.PhaserLine.{PhaserLine}
+use Rattle.graph_base.specs.Graphs.{Task, task_at, phaser_at}
+use Rattle.graph_base.specs.Registrations.{ends_of, as_input, as_output, as_exchange, exchange_mode, no_registration}
+use Rattle.graph_base.specs.TaskLines.{IsGraph, IsTaskLine, HasEnds, IsExchangeBelow, has_children, IsParent}
+use Rattle.graph_base.proofs.Registered.{registrations-phasers, registrations-plain, length-registrations, end-input, end-output}
 use Rattle.stream_lists.specs.Jobs.{Job, index_in}
 use Rattle.stream_lists.specs.Spans.{signalled_by, takes_from}
 use Rattle.stream_lists.proofs.SpansAbove.{parent-is}

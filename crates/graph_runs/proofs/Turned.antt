@@ -3,15 +3,15 @@ use Rattle.std.proofs.Common.{◌≡◌, ◌≢◌, ℕ, suc, ◌+◌, ◌<◌, 
 use mathlib.Core.List.{IsPrefix}
 use Rattle.std.proofs.lemmas.Bool.{ne_eqb, eq-eqb}
 use Rattle.std.proofs.lemmas.List.{length-append, append_assoc}
-use Rattle.phase_history.specs.phase_accum.declared.outcome.Outcome.{Outcome}
+use Rattle.phase_accum.specs.declared.outcome.Outcome.{Outcome}
 use Rattle.phase_history.specs.declared.event.Event.TheVariants.{Registered, Signalled, Waited, Dropped}
-use Rattle.phase_history.specs.phase_base.declared.mode.Mode.{Mode}
+use Rattle.phase_base.specs.declared.mode.Mode.{Mode}
 use Rattle.phase_history.proofs.Streams.{IsPrefix-trans}
-use Rattle.stream_lists.specs.graph_base.declared.line.Parent.{Parent}
-use Rattle.stream_lists.specs.graph_base.declared.line.Kind.{Kind}
-use Rattle.stream_lists.specs.graph_base.declared.line.Kind.TheVariants.{Source, Fir, Split, Decimate, Join, Peer, Sink}
-use Rattle.stream_lists.specs.graph_base.Graphs.{task_at, phaser_at}
-use Rattle.stream_lists.specs.graph_base.TaskLines.{IsGraph}
+use Rattle.graph_base.specs.declared.line.Parent.{Parent}
+use Rattle.graph_base.specs.declared.line.Kind.{Kind}
+use Rattle.graph_base.specs.declared.line.Kind.TheVariants.{Source, Fir, Split, Decimate, Join, Peer, Sink}
+use Rattle.graph_base.specs.Graphs.{task_at, phaser_at}
+use Rattle.graph_base.specs.TaskLines.{IsGraph}
 use Rattle.stream_lists.specs.Jobs.{Job, samples_at}
 use Rattle.stream_lists.specs.Spans.{signalled_by}
 use Rattle.stream_lists.specs.Lists.{output_list, number}

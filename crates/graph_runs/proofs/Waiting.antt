@@ -1,12 +1,12 @@
 -- Where a live task stands as a waiter.
 use Rattle.std.proofs.Common.{◌≡◌, ℕ, ◌+◌, ◌<◌, inr, true, false, Option, Some, None, is_some, length, refl, sym, ap, ◌∙◌}
-use Rattle.phase_history.specs.phase_base.declared.entry.Entry.{Entry}
-use Rattle.phase_history.specs.phase_base.Members.{entry_of}
+use Rattle.phase_base.specs.declared.entry.Entry.{Entry}
+use Rattle.phase_base.specs.Members.{entry_of}
 use Rattle.phase_history.specs.Histories.{History, IsAlive, members_of, has_dropped, start_of}
 use Rattle.phase_history.proofs.Alive.{alive_law}
 use Rattle.phase_history.proofs.LawProofs.{counted_of}
-use Rattle.stream_lists.specs.graph_base.Graphs.{task_at}
-use Rattle.stream_lists.specs.graph_base.TaskLines.{IsGraph}
+use Rattle.graph_base.specs.Graphs.{task_at}
+use Rattle.graph_base.specs.TaskLines.{IsGraph}
 use Rattle.stream_lists.specs.Jobs.{Job}
 use Rattle.graph_runs.specs.Moments.{Moment, HasRun, OnInput, limits_at, input_at}
 use Rattle.graph_runs.proofs.Registering.{waits_at}

@@ -4,10 +4,10 @@ use Rattle.std.proofs.lemmas.Option.{same_Some}
 use Rattle.phase_history.specs.Others.{OthersCame}
 use Rattle.phase_history.proofs.Beginnings.{IsBeginning-refl}
 use Rattle.phase_history.proofs.OthersEvents.{IsBeginning-others}
-use Rattle.stream_lists.specs.graph_base.Graphs.{task_at}
-use Rattle.stream_lists.specs.graph_base.TaskLines.{IsGraph}
-use Rattle.stream_lists.specs.graph_base.declared.line.Kind.TheVariants.{Sink}
-use Rattle.stream_lists.specs.graph_base.declared.line.Parent.{Parent}
+use Rattle.graph_base.specs.Graphs.{task_at}
+use Rattle.graph_base.specs.TaskLines.{IsGraph}
+use Rattle.graph_base.specs.declared.line.Kind.TheVariants.{Sink}
+use Rattle.graph_base.specs.declared.line.Parent.{Parent}
 use Rattle.stream_lists.specs.Jobs.{Job}
 use Rattle.graph_runs.proofs.Whole.{parent_of}
 use Rattle.graph_runs.specs.Moments.{Moment, HasRun, PhaserRan, TaskRan, OnLine, IsRegistered, IsChild}

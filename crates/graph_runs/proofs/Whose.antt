@@ -4,8 +4,8 @@ use Rattle.std.specs.Prelude.{slice_range}
 use Rattle.phase_history.specs.Histories.{greatest_used}
 use Rattle.phase_history.specs.Phases.{stream_of}
 use Rattle.phase_history.specs.Refusals.{register_refusal, register_now_refusal, drop_refusal}
-use Rattle.stream_lists.specs.graph_base.declared.registration.Registration.{Registration}
-use Rattle.stream_lists.specs.graph_base.Graphs.{task_at}
+use Rattle.graph_base.specs.declared.registration.Registration.{Registration}
+use Rattle.graph_base.specs.Graphs.{task_at}
 use Rattle.stream_lists.specs.Jobs.{Job}
 use Rattle.graph_runs.specs.Moments.{Moment, input_at, value_at}
 use Rattle.graph_runs.specs.TaskEvents.{TaskEvent, sample, signal, first_wait, exchange_wait, leave, child, child_now}

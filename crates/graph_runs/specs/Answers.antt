@@ -1,7 +1,7 @@
 -- What a turn of a task makes and answers at a moment.
 use Rattle.std.specs.Prelude.{ℕ, ◌+◌, Bool, true, false, ◌&&◌, ℤ, List, [], ◌∷◌, length, map, take, drop, slice_range, Option, Some, None, Result, Ok, Err, get_or, if◌then◌else◌}
 use Rattle.std.specs.List.{range_with_len, list_any, list_all, position_from}
-use Rattle.phase_history.specs.phase_accum.declared.outcome.Outcome.{Outcome}
+use Rattle.phase_accum.specs.declared.outcome.Outcome.{Outcome}
 use Rattle.phase_history.specs.declared.got.Got.{Got}
 use Rattle.phase_history.specs.declared.got.Got.TheVariants as got
 use Rattle.phase_history.specs.declared.got.GotBlock.{GotBlock}
@@ -14,10 +14,10 @@ use Rattle.phase_history.specs.Histories.{greatest_used, wait_phase}
 use Rattle.phase_history.specs.Phases.{stream_of}
 use Rattle.phase_history.specs.Refusals.{register_refusal, register_now_refusal, signal_refusal, drop_refusal}
 use Rattle.phase_history.specs.Replies.{wait_reply, wait_block_reply}
-use Rattle.stream_lists.specs.graph_base.declared.place.Place.TheVariants as place
-use Rattle.stream_lists.specs.graph_base.declared.registration.Registration.{Registration}
-use Rattle.stream_lists.specs.graph_base.Graphs.{task_at, phaser_at}
-use Rattle.stream_lists.specs.graph_base.Registrations.{signalled_by}
+use Rattle.graph_base.specs.declared.place.Place.TheVariants as place
+use Rattle.graph_base.specs.declared.registration.Registration.{Registration}
+use Rattle.graph_base.specs.Graphs.{task_at, phaser_at}
+use Rattle.graph_base.specs.Registrations.{signalled_by}
 use Rattle.stream_lists.specs.Jobs.{Job, samples_at}
 use Rattle.stream_lists.specs.Ranges.{Where, are_made, is_out_of_range, is_too_big}
 use Rattle.graph_runs.specs.Moments.{one, Moment, limits_at, value_at, input_at, made_now}

@@ -3,8 +3,8 @@
 use Rattle.std.specs.Prelude.{◌≡◌, ℕ, ℤ, ◌<◌, ◌≤◌, ◌&&◌, Bool, not, nat_le, List, length, take, true, false, Some}
 use mathlib.Core.List.{IsPrefix}
 use Rattle.phase_history.specs.Histories.{has_dropped}
-use Rattle.stream_lists.specs.graph_base.Graphs.{is_source, task_at}
-use Rattle.stream_lists.specs.graph_base.declared.line.Kind.TheVariants.{Source}
+use Rattle.graph_base.specs.Graphs.{is_source, task_at}
+use Rattle.graph_base.specs.declared.line.Kind.TheVariants.{Source}
 use Rattle.graph_runs.specs.Moments.{Moment, MayStop}
 use Rattle.graph_runs.specs.Nexts as nexts
 use Rattle.graph_runs.specs.Nexts.{Next, is_cut, next_of}

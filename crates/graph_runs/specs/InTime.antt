@@ -1,6 +1,6 @@
 -- Where a sink that joins now may begin.
 use Rattle.std.specs.Prelude.{◌≡◌, ◌≤◌, ℕ, Some, get_or}
-use Rattle.stream_lists.specs.graph_base.Graphs.{task_at}
+use Rattle.graph_base.specs.Graphs.{task_at}
 use Rattle.stream_lists.specs.Jobs.{Job}
 use Rattle.stream_lists.specs.Lists.{start_in}
 use Rattle.stream_lists.specs.Spans.{lengths_of}

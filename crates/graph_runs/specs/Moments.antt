@@ -4,22 +4,22 @@
 use Rattle.std.specs.Prelude.{◌≡◌, ℕ, suc, ◌+◌, ◌<◌, ◌≤◌, ◌%◌, ℤ, List, [], ◌∷◌, length, map, take, drop, get_or, Option, Some, None, Bool, true, false, ◌⊎◌}
 use Rattle.std.specs.List.{range_with_len, filter_map, All}
 use mathlib.Core.List.{IsPrefix}
-use Rattle.phase_history.specs.phase_base.Limits.{Limits, limits}
-use Rattle.phase_history.specs.phase_base.declared.limits.TheConstants.{PHASES_MAX}
-use Rattle.phase_history.specs.phase_base.Modes.{mode_signals, mode_waits}
-use Rattle.phase_history.specs.phase_base.declared.entry.Entry.{Entry}
-use Rattle.phase_history.specs.phase_accum.declared.outcome.Outcome.{Outcome}
+use Rattle.phase_base.specs.Limits.{Limits, limits}
+use Rattle.phase_base.specs.declared.limits.TheConstants.{PHASES_MAX}
+use Rattle.phase_base.specs.Modes.{mode_signals, mode_waits}
+use Rattle.phase_base.specs.declared.entry.Entry.{Entry}
+use Rattle.phase_accum.specs.declared.outcome.Outcome.{Outcome}
 use Rattle.phase_history.specs.declared.event.Event.TheVariants.{Waited}
 use Rattle.phase_history.specs.Histories.{History, done_of, start_of, has_dropped, wait_phase, HasNoSignaller}
 use Rattle.phase_history.specs.Phases.{received_by, stream_of}
 use Rattle.phase_history.specs.Legal.{IsLegal}
 use Rattle.phase_history.specs.Others.{IsUsed}
-use Rattle.phase_history.specs.phase_base.Lists.{is_in}
+use Rattle.phase_base.specs.Lists.{is_in}
 use Rattle.phase_history.specs.Sent.{sent_by, NamesAll, IsSilent}
-use Rattle.stream_lists.specs.graph_base.declared.line.Kind.{Kind}
-use Rattle.stream_lists.specs.graph_base.declared.line.Kind.TheVariants.{Source, Join, Peer}
-use Rattle.stream_lists.specs.graph_base.declared.line.Parent.{Parent}
-use Rattle.stream_lists.specs.graph_base.Graphs.{Task, task_at, phaser_at}
+use Rattle.graph_base.specs.declared.line.Kind.{Kind}
+use Rattle.graph_base.specs.declared.line.Kind.TheVariants.{Source, Join, Peer}
+use Rattle.graph_base.specs.declared.line.Parent.{Parent}
+use Rattle.graph_base.specs.Graphs.{Task, task_at, phaser_at}
 use Rattle.stream_lists.specs.Jobs.{Job, samples_at, index_in, with_starts}
 use Rattle.stream_lists.specs.Spans.{signalled_by, takes_from}
 use Rattle.stream_lists.specs.Lists.{value_by, number, output_list}

@@ -1,19 +1,19 @@
 -- How a moment changes: what others' events leave of a task, and one event of one task.
 use Rattle.std.specs.Prelude.{◌≡◌, ◌≢◌, ℕ, suc, ◌+◌, ◌<◌, ◌≤◌, ℤ, List, [], ◌∷◌, ◌++◌, length, map, Some, None, true, false, ◌⊎◌}
 use mathlib.Core.List.{IsPrefix}
-use Rattle.phase_history.specs.phase_base.Modes.{mode_signals, mode_waits}
-use Rattle.phase_history.specs.phase_base.declared.mode.Mode.{Mode}
-use Rattle.phase_history.specs.phase_accum.declared.outcome.Outcome.{Outcome}
+use Rattle.phase_base.specs.Modes.{mode_signals, mode_waits}
+use Rattle.phase_base.specs.declared.mode.Mode.{Mode}
+use Rattle.phase_accum.specs.declared.outcome.Outcome.{Outcome}
 use Rattle.phase_history.specs.declared.event.Event.{Event}
 use Rattle.phase_history.specs.declared.event.Event.TheVariants.{Registered, RegisteredNow, Signalled, Waited, Dropped}
 use Rattle.phase_history.specs.Histories.{History, IsBeginning, has_dropped, phases_signalled, done_of}
 use Rattle.phase_history.specs.Phases.{received_by}
 use Rattle.phase_history.specs.Sent.{sent_by}
 use Rattle.phase_history.specs.Legal.{IsLegal, IsAccepted}
-use Rattle.stream_lists.specs.graph_base.declared.line.Parent.{Parent}
-use Rattle.stream_lists.specs.graph_base.Graphs.{task_at, phaser_at}
-use Rattle.stream_lists.specs.graph_base.declared.line.Kind.TheVariants.{Source, Fir, Peer, Sink}
-use Rattle.stream_lists.specs.graph_base.declared.line.Kind.{Kind}
+use Rattle.graph_base.specs.declared.line.Parent.{Parent}
+use Rattle.graph_base.specs.Graphs.{task_at, phaser_at}
+use Rattle.graph_base.specs.declared.line.Kind.TheVariants.{Source, Fir, Peer, Sink}
+use Rattle.graph_base.specs.declared.line.Kind.{Kind}
 use Rattle.stream_lists.specs.Jobs.{Job, samples_at, index_in}
 use Rattle.stream_lists.specs.Spans.{signalled_by, takes_from}
 use Rattle.stream_lists.specs.Lists.{number}

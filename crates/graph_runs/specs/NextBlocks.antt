@@ -2,10 +2,10 @@
 -- names, none past its `until`, and none past the boundary of a child that is still to come.
 use Rattle.std.specs.Prelude.{◌≡◌, ℕ, ◌-◌, ◌<◌, ◌≤◌, ◌==◌, ◌&&◌, Option, Some, None, length, min, nat_lt, if◌then◌else◌}
 use Rattle.std.specs.List.{range_with_len, fold}
-use Rattle.stream_lists.specs.graph_base.declared.line.Kind.TheVariants.{Fir}
-use Rattle.stream_lists.specs.graph_base.declared.line.Parent.{Parent}
-use Rattle.stream_lists.specs.graph_base.Graphs.{Graph, Task, task_at}
-use Rattle.stream_lists.specs.graph_base.TaskLines.{HasBlock}
+use Rattle.graph_base.specs.declared.line.Kind.TheVariants.{Fir}
+use Rattle.graph_base.specs.declared.line.Parent.{Parent}
+use Rattle.graph_base.specs.Graphs.{Graph, Task, task_at}
+use Rattle.graph_base.specs.TaskLines.{HasBlock}
 use Rattle.stream_lists.specs.Jobs.{Job, samples_at}
 use Rattle.graph_runs.specs.Moments.{Moment}
 

@@ -2,14 +2,14 @@
 -- boundary first its children that come there, then `until`, the end of its input, and a step.
 use Rattle.std.specs.Prelude.{◌<◌, [], ◌≡◌, ℕ, suc, ◌+◌, Bool, false, not, ◌&&◌, ◌||◌, ◌==◌, List, length, Option, Some, None, is_some, unwrap_or, nat_le, nat_lt, if◌then◌else◌, true}
 use Rattle.std.specs.List.{range_with_len, find}
-use Rattle.phase_history.specs.phase_base.Members.{signal_phases, least}
+use Rattle.phase_base.specs.Members.{signal_phases, least}
 use Rattle.phase_history.specs.Histories.{History, members_of, done_of, has_dropped}
-use Rattle.stream_lists.specs.graph_base.declared.line.Kind.{Kind}
-use Rattle.stream_lists.specs.graph_base.declared.line.Kind.TheVariants.{Source, Peer}
-use Rattle.stream_lists.specs.graph_base.declared.line.Parent.{Parent}
-use Rattle.stream_lists.specs.graph_base.declared.registration.Registration.{Registration}
-use Rattle.stream_lists.specs.graph_base.Graphs.{Task, task_at}
-use Rattle.stream_lists.specs.graph_base.Registrations.{registrations_of, signalled_by}
+use Rattle.graph_base.specs.declared.line.Kind.{Kind}
+use Rattle.graph_base.specs.declared.line.Kind.TheVariants.{Source, Peer}
+use Rattle.graph_base.specs.declared.line.Parent.{Parent}
+use Rattle.graph_base.specs.declared.registration.Registration.{Registration}
+use Rattle.graph_base.specs.Graphs.{Task, task_at}
+use Rattle.graph_base.specs.Registrations.{registrations_of, signalled_by}
 use Rattle.stream_lists.specs.Jobs.{Job, samples_at}
 use Rattle.graph_runs.specs.Moments.{Moment, input_at, made_now, first_input}
 

@@ -6,9 +6,9 @@ use Rattle.phase_history.specs.declared.event.Event.TheVariants.{Made, Registere
 use Rattle.phase_history.specs.Histories.{History, IsBeginning}
 use Rattle.phase_history.specs.Legal.{IsLegal}
 use Rattle.phase_history.specs.Others.{events_of}
-use Rattle.stream_lists.specs.graph_base.declared.line.Parent.{Parent}
-use Rattle.stream_lists.specs.graph_base.Graphs.{task_at}
-use Rattle.stream_lists.specs.graph_base.declared.registration.Registration.{Registration}
+use Rattle.graph_base.specs.declared.line.Parent.{Parent}
+use Rattle.graph_base.specs.Graphs.{task_at}
+use Rattle.graph_base.specs.declared.registration.Registration.{Registration}
 use Rattle.stream_lists.specs.Jobs.{Job}
 use Rattle.graph_runs.specs.Moments.{Moment, AtMost, OnLine, limits_at}
 use Rattle.graph_runs.specs.Moves.{SameTask, IsBlock}

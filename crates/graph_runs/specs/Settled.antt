@@ -1,9 +1,9 @@
 -- What a moment of a run has of the lists that the definitions compose.
 use Rattle.std.specs.Prelude.{◌≡◌, ℕ, ◌<◌, ◌≤◌, pos, Some, None, true, length, get_or}
 use mathlib.Core.List.{IsPrefix}
-use Rattle.stream_lists.specs.graph_base.Graphs.{task_at}
-use Rattle.stream_lists.specs.graph_base.TaskLines.{IsGraph}
-use Rattle.stream_lists.specs.graph_base.declared.place.Place.TheVariants as place
+use Rattle.graph_base.specs.Graphs.{task_at}
+use Rattle.graph_base.specs.TaskLines.{IsGraph}
+use Rattle.graph_base.specs.declared.place.Place.TheVariants as place
 use Rattle.stream_lists.specs.Jobs.{Job, samples_at, index_in}
 use Rattle.stream_lists.specs.Spans.{lengths_of, span_in, signalled_by, schedule_of}
 use Rattle.stream_lists.specs.Lists.{contributions_on, numbers_of, output_on}

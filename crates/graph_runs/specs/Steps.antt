@@ -1,8 +1,8 @@
 -- What the code of a task keeps of its step.
 use Rattle.std.specs.Prelude.{◌≡◌, [], ◌∷◌, List, ℤ, Option, Some}
-use Rattle.stream_lists.specs.stream_filters.Filter.{FirState, StandsFor}
-use Rattle.stream_lists.specs.graph_base.declared.line.Kind.TheVariants.{Fir}
-use Rattle.stream_lists.specs.graph_base.Graphs.{Task}
+use Rattle.stream_filters.specs.Filter.{FirState, StandsFor}
+use Rattle.graph_base.specs.declared.line.Kind.TheVariants.{Fir}
+use Rattle.graph_base.specs.Graphs.{Task}
 use Rattle.graph_runs.specs.TaskPlaces as turns
 use Rattle.graph_runs.specs.declared.owed.Owed.{Owed}
 use Rattle.graph_runs.specs.declared.owed.Owed.TheVariants as code

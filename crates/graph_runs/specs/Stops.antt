@@ -4,10 +4,10 @@ use mathlib.Core.List.{IsPrefix}
 use Rattle.phase_history.specs.Histories.{History, has_dropped}
 use Rattle.phase_history.specs.Legal.{IsLegal}
 use Rattle.phase_history.specs.Others.{OthersCame}
-use Rattle.phase_history.specs.phase_base.Lists.{is_in}
-use Rattle.stream_lists.specs.graph_base.declared.line.Kind.TheVariants.{Sink, Source}
-use Rattle.stream_lists.specs.graph_base.declared.line.Parent.{Parent}
-use Rattle.stream_lists.specs.graph_base.Graphs.{task_at}
+use Rattle.phase_base.specs.Lists.{is_in}
+use Rattle.graph_base.specs.declared.line.Kind.TheVariants.{Sink, Source}
+use Rattle.graph_base.specs.declared.line.Parent.{Parent}
+use Rattle.graph_base.specs.Graphs.{task_at}
 use Rattle.stream_lists.specs.Jobs.{Job, samples_in, with_samples, with_starts}
 use Rattle.stream_lists.specs.Lists.{numbers_of, taken_from}
 use Rattle.stream_lists.specs.Spans.{span_in}

@@ -6,11 +6,11 @@ use Rattle.phase_history.specs.declared.event.Event.TheVariants.{Made, Signalled
 use Rattle.phase_history.specs.Histories.{History, IsBeginning, has_dropped}
 use Rattle.phase_history.specs.Phases.{received_by}
 use Rattle.phase_history.specs.Others.{events_of, children_in}
-use Rattle.phase_history.specs.phase_base.Lists.{is_in}
+use Rattle.phase_base.specs.Lists.{is_in}
 use Rattle.phase_history.specs.Sent.{NamesAll}
-use Rattle.stream_lists.specs.graph_base.declared.line.Kind.TheVariants.{Sink}
-use Rattle.stream_lists.specs.graph_base.declared.line.Parent.{Parent}
-use Rattle.stream_lists.specs.graph_base.Graphs.{task_at, phaser_at}
+use Rattle.graph_base.specs.declared.line.Kind.TheVariants.{Sink}
+use Rattle.graph_base.specs.declared.line.Parent.{Parent}
+use Rattle.graph_base.specs.Graphs.{task_at, phaser_at}
 use Rattle.stream_lists.specs.Jobs.{Job}
 use Rattle.stream_lists.specs.Ranges.{is_too_big}
 use Rattle.graph_runs.specs.Moments.{Moment, value_at, OnLine}

@@ -1,8 +1,8 @@
 -- One event of one task, the moment after it, and when it is the task's next one.
 use Rattle.std.specs.Prelude.{ℕ, ◌<◌, ℤ, List, length}
-use Rattle.phase_history.specs.phase_base.declared.mode.Mode.{Mode}
-use Rattle.phase_history.specs.phase_accum.declared.outcome.Outcome.{Outcome}
-use Rattle.stream_lists.specs.graph_base.declared.line.Parent.{Parent}
+use Rattle.phase_base.specs.declared.mode.Mode.{Mode}
+use Rattle.phase_accum.specs.declared.outcome.Outcome.{Outcome}
+use Rattle.graph_base.specs.declared.line.Parent.{Parent}
 use Rattle.stream_lists.specs.Jobs.{Job}
 use Rattle.graph_runs.specs.Moments.{Moment}
 use Rattle.graph_runs.specs.Moves.{further}

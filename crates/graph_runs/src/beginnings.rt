@@ -2,9 +2,9 @@
 //! it. Each function here makes no call and has no effect: its contract is the law.
 ghost use Rattle.std.specs.Prelude.{◌≡◌, ◌<◌, ℕ, List, [], ◌∷◌, length, true, get_or, Some, None};
 ghost use Rattle.phase_history.specs.Histories.{History, done_of};
-ghost use Rattle.stream_lists.specs.graph_base.declared.line.Parent.{Parent};
-ghost use Rattle.stream_lists.specs.graph_base.Graphs.{task_at};
-ghost use Rattle.stream_lists.specs.graph_base.TaskLines.{IsGraph};
+ghost use Rattle.graph_base.specs.declared.line.Parent.{Parent};
+ghost use Rattle.graph_base.specs.Graphs.{task_at};
+ghost use Rattle.graph_base.specs.TaskLines.{IsGraph};
 ghost use Rattle.stream_lists.specs.Jobs.{Job};
 ghost use Rattle.graph_runs.specs.Moments.{Moment, OnLine};
 ghost use Rattle.graph_runs.specs.Beginnings.{opening};

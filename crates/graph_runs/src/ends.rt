@@ -2,13 +2,13 @@
 //! makes no call and has no effect: its contract is the law.
 ghost use Rattle.std.specs.Prelude.{◌≡◌, ◌<◌, ℕ, ℤ, List, [], ◌∷◌, true, false, length, get_or, Some, None};
 ghost use Rattle.std.specs.List.{All};
-ghost use Rattle.phase_history.specs.phase_base.declared.mode.Mode.{Mode};
-ghost use Rattle.phase_history.specs.phase_accum.declared.outcome.Outcome.{Outcome};
+ghost use Rattle.phase_base.specs.declared.mode.Mode.{Mode};
+ghost use Rattle.phase_accum.specs.declared.outcome.Outcome.{Outcome};
 ghost use Rattle.phase_history.specs.Histories.{History, has_dropped};
 ghost use Rattle.phase_history.specs.Others.{OthersCame};
-ghost use Rattle.phase_history.specs.phase_base.Lists.{is_in};
-ghost use Rattle.stream_lists.specs.graph_base.Graphs.{task_at};
-ghost use Rattle.stream_lists.specs.graph_base.TaskLines.{IsGraph};
+ghost use Rattle.phase_base.specs.Lists.{is_in};
+ghost use Rattle.graph_base.specs.Graphs.{task_at};
+ghost use Rattle.graph_base.specs.TaskLines.{IsGraph};
 ghost use Rattle.stream_lists.specs.Jobs.{Job};
 ghost use Rattle.stream_lists.specs.Ranges.{is_too_big};
 ghost use Rattle.graph_runs.specs.Moments.{Moment};

@@ -1,11 +1,11 @@
 //! What samples that come later leave as it is. The contract of each function is the law.
 ghost use Rattle.std.specs.Prelude.{◌≡◌, ◌<◌, ◌≤◌, Some, None, ℕ, ℤ, List, length, Bool, nat_le};
-ghost use Rattle.stream_lists.specs.graph_base.declared.line.Kind.TheVariants.{Source};
+ghost use Rattle.graph_base.specs.declared.line.Kind.TheVariants.{Source};
 ghost use Rattle.graph_runs.specs.Nexts.{next_of};
 ghost use Rattle.graph_runs.specs.TaskPlaces.{TaskPlace, StandsUpTo};
 ghost use mathlib.Core.List.{IsPrefix};
-ghost use Rattle.stream_lists.specs.graph_base.Graphs.{task_at};
-ghost use Rattle.stream_lists.specs.graph_base.TaskLines.{IsGraph};
+ghost use Rattle.graph_base.specs.Graphs.{task_at};
+ghost use Rattle.graph_base.specs.TaskLines.{IsGraph};
 ghost use Rattle.stream_lists.specs.Jobs.{Job, samples_at, samples_in, with_samples};
 ghost use Rattle.stream_lists.specs.Lists.{numbers_of, taken_from};
 ghost use Rattle.stream_lists.specs.Spans.{span_in};

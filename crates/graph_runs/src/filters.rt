@@ -1,16 +1,16 @@
 //! The filter of a task that is one.
 ghost use Rattle.std.specs.Prelude.{◌≡◌, ◌↔◌, ◌+◌, ◌-◌, ◌<◌, ◌≤◌, List, ℤ, [], ◌∷◌, ◌++◌, length, take, vec_capacity, IsOk, IfOk};
-ghost use Rattle.stream_lists.specs.graph_base.Graphs.{task_at};
-ghost use Rattle.stream_lists.specs.graph_base.declared.line.Kind.TheVariants.{Fir as filters};
+ghost use Rattle.graph_base.specs.Graphs.{task_at};
+ghost use Rattle.graph_base.specs.declared.line.Kind.TheVariants.{Fir as filters};
 ghost use Rattle.graph_runs.specs.Steps.{HasFilter};
-ghost use Rattle.stream_lists.specs.stream_filters.Filter.{output_after, outputs_of_block};
-ghost use Rattle.stream_lists.specs.stream_filters.Range.{before_out_of_range, ranged};
+ghost use Rattle.stream_filters.specs.Filter.{output_after, outputs_of_block};
+ghost use Rattle.stream_filters.specs.Range.{before_out_of_range, ranged};
 
 use crate::lines::kind_of;
+use graph_base::Kind;
 use std::alloc::{AllocError, Global};
+use stream_filters::{Fir, FirFault, TooBigValue};
 use stream_lists::Job;
-use stream_lists::graph_base::Kind;
-use stream_lists::stream_filters::{Fir, FirFault, TooBigValue};
 
 /// Makes the filter of task number `t`, where it is one, before its first sample.
 ///

@@ -46,7 +46,5 @@ pub mod turns;
 pub use filters::{filtered, filtered_all, first_filter};
 pub use lines::{first_input_of, input_of, is_cut, kind_of, output_of, parent_of, until_of};
 pub use owed::Owed;
-pub use phase_history::{phase_accum, phase_base};
 pub use steps::{owed_after_exchange, owed_after_signal, owed_after_wait};
-pub use stream_lists::graph_base;
 pub use taken::number_taken;

@@ -1,17 +1,17 @@
 //! What the line of a task says.
 ghost use Rattle.std.specs.Prelude.{◌≡◌, ◌≢◌, ◌<◌, ◌%◌, length};
-ghost use Rattle.stream_lists.specs.graph_base.Graphs.{task_at};
-ghost use Rattle.stream_lists.specs.graph_base.GraphFields.{task_of};
-ghost use Rattle.stream_lists.specs.graph_base.TaskLines.{HasEnds, IsGraph, IsTaskLine};
-ghost use Rattle.stream_lists.specs.graph_base.declared.line.Kind.TheVariants.{Source, Split};
-ghost use Rattle.stream_lists.specs.graph_base.Registrations.{signalled_by};
+ghost use Rattle.graph_base.specs.Graphs.{task_at};
+ghost use Rattle.graph_base.specs.GraphFields.{task_of};
+ghost use Rattle.graph_base.specs.TaskLines.{HasEnds, IsGraph, IsTaskLine};
+ghost use Rattle.graph_base.specs.declared.line.Kind.TheVariants.{Source, Split};
+ghost use Rattle.graph_base.specs.Registrations.{signalled_by};
 ghost use Rattle.graph_runs.specs.Moments.{first_input, input_at};
 ghost use Rattle.graph_runs.specs.Answers.{output_at};
 ghost use Rattle.graph_runs.specs.Nexts.{is_cut};
 ghost use Rattle.graph_runs.specs.TaskPlaces.{registration_of_output};
 
+use graph_base::{ENDS_MAX, Kind, Parent, TaskLine};
 use stream_lists::Job;
-use stream_lists::graph_base::{ENDS_MAX, Kind, Parent, TaskLine};
 
 /// The line of task number `t`.
 fn line_of(job: &Job, t: usize) -> &TaskLine

@@ -3,12 +3,12 @@
 //! the events of a run keep, in whatever order the tasks take their turns.
 ghost use Rattle.std.specs.Prelude.{◌≡◌, ◌≢◌, ◌+◌, ◌<◌, ◌≤◌, ℕ, ℤ, suc, pos, List, Some, None, Ok, true, length, get_or, map};
 ghost use mathlib.Core.List.{IsPrefix};
-ghost use Rattle.phase_history.specs.phase_accum.declared.outcome.Outcome.TheVariants.{TooBig};
+ghost use Rattle.phase_accum.specs.declared.outcome.Outcome.TheVariants.{TooBig};
 ghost use Rattle.phase_history.specs.Histories.{HasNoSignaller, done_of};
 ghost use Rattle.phase_history.specs.Phases.{stream_of, value_of_phase};
-ghost use Rattle.stream_lists.specs.graph_base.Graphs.{task_at};
-ghost use Rattle.stream_lists.specs.graph_base.TaskLines.{IsGraph};
-ghost use Rattle.stream_lists.specs.graph_base.declared.place.Place.TheVariants as place;
+ghost use Rattle.graph_base.specs.Graphs.{task_at};
+ghost use Rattle.graph_base.specs.TaskLines.{IsGraph};
+ghost use Rattle.graph_base.specs.declared.place.Place.TheVariants as place;
 ghost use Rattle.stream_lists.specs.Jobs.{Job, index_in};
 ghost use Rattle.stream_lists.specs.Lists.{numbers_of, list_of_phaser, taken_from, sinks_of};
 ghost use Rattle.stream_lists.specs.Ranges.{Where, first_too_big, answer_of, are_made, is_out_of_range};

@@ -3,10 +3,10 @@
 //! one, in any order of the tasks, has `HasRun` of every moment, and with it the laws of
 //! `moments`.
 ghost use Rattle.std.specs.Prelude.{◌<◌, ℕ, ℤ, suc, List, [], ◌∷◌, length};
-ghost use Rattle.phase_history.specs.phase_base.declared.mode.Mode.{Mode};
-ghost use Rattle.phase_history.specs.phase_accum.declared.outcome.Outcome.{Outcome};
-ghost use Rattle.stream_lists.specs.graph_base.TaskLines.{IsGraph};
-ghost use Rattle.stream_lists.specs.graph_base.declared.line.Parent.{Parent};
+ghost use Rattle.phase_base.specs.declared.mode.Mode.{Mode};
+ghost use Rattle.phase_accum.specs.declared.outcome.Outcome.{Outcome};
+ghost use Rattle.graph_base.specs.TaskLines.{IsGraph};
+ghost use Rattle.graph_base.specs.declared.line.Parent.{Parent};
 ghost use Rattle.stream_lists.specs.Jobs.{Job};
 ghost use Rattle.phase_history.specs.Histories.{History};
 ghost use Rattle.phase_history.specs.Legal.{IsLegal};

@@ -1,7 +1,7 @@
 //! What runs by turns come to: whether a value out of range was met, and that a run is over. Each
 //! function here makes no call and has no effect: its contract is the law.
 ghost use Rattle.std.specs.Prelude.{◌≡◌, ◌≢◌, ◌<◌, ℕ, Some, None, Ok, false, length, map};
-ghost use Rattle.stream_lists.specs.graph_base.TaskLines.{IsGraph};
+ghost use Rattle.graph_base.specs.TaskLines.{IsGraph};
 ghost use Rattle.stream_lists.specs.Jobs.{Job};
 ghost use Rattle.stream_lists.specs.Lists.{sinks_of};
 ghost use Rattle.stream_lists.specs.Ranges.{Where, answer_of};

@@ -1,6 +1,6 @@
 //! What a task owes within a step.
 
-use stream_lists::stream_filters::TooBigValue;
+use stream_filters::TooBigValue;
 
 /// What the begun steps of a task owe next.
 #[derive(Clone, Copy, Debug, PartialEq, Eq)]

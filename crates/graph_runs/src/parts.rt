@@ -1,10 +1,10 @@
 //! What a task's calls leave of its part. Each function here makes no call and has no effect: its
 //! contract is the law.
 ghost use Rattle.std.specs.Prelude.{◌<◌, ◌+◌, ℕ, ℤ, List, [], ◌∷◌, length};
-ghost use Rattle.phase_history.specs.phase_accum.declared.outcome.Outcome.{Outcome};
+ghost use Rattle.phase_accum.specs.declared.outcome.Outcome.{Outcome};
 ghost use Rattle.phase_history.specs.Histories.{History};
-ghost use Rattle.stream_lists.specs.graph_base.Graphs.{task_at};
-ghost use Rattle.stream_lists.specs.graph_base.TaskLines.{IsGraph};
+ghost use Rattle.graph_base.specs.Graphs.{task_at};
+ghost use Rattle.graph_base.specs.TaskLines.{IsGraph};
 ghost use Rattle.stream_lists.specs.Jobs.{Job};
 ghost use Rattle.graph_runs.specs.Moments.{Moment, HasEnded, RanOut, input_at};
 ghost use Rattle.graph_runs.specs.Moves.{IsStaying, NoneDue};

@@ -1,11 +1,11 @@
 //! What the place of a task tells who moves the task alone, and how it goes on. Each function here
 //! makes no call and has no effect: its contract is the law.
 ghost use Rattle.std.specs.Prelude.{◌≡◌, true, ◌+◌, ◌<◌, ◌≤◌, ℕ, ℤ, List, [], ◌∷◌, length, map, take, drop, Some, Ok};
-ghost use Rattle.phase_history.specs.phase_accum.declared.outcome.Outcome.{Outcome};
+ghost use Rattle.phase_accum.specs.declared.outcome.Outcome.{Outcome};
 ghost use Rattle.phase_history.specs.Histories.{History};
-ghost use Rattle.stream_lists.specs.graph_base.declared.line.Kind.TheVariants as kind;
-ghost use Rattle.stream_lists.specs.graph_base.Graphs.{task_at};
-ghost use Rattle.stream_lists.specs.graph_base.TaskLines.{IsGraph};
+ghost use Rattle.graph_base.specs.declared.line.Kind.TheVariants as kind;
+ghost use Rattle.graph_base.specs.Graphs.{task_at};
+ghost use Rattle.graph_base.specs.TaskLines.{IsGraph};
 ghost use Rattle.stream_lists.specs.Jobs.{Job, samples_at};
 ghost use Rattle.stream_lists.specs.Lists.{number};
 ghost use Rattle.graph_runs.specs.Moments.{Moment, HasEnded, RanOut, input_at, first_input};

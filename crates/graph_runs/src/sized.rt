@@ -1,7 +1,7 @@
 //! Turns of other sizes than a block of the task's line. The contract of the function is the law.
 ghost use Rattle.std.specs.Prelude.{◌≡◌, ◌≢◌, ℕ, ℤ, List, Some};
-ghost use Rattle.phase_history.specs.phase_accum.Sends.{AreSends};
-ghost use Rattle.stream_lists.specs.graph_base.TaskLines.{IsGraph};
+ghost use Rattle.phase_accum.specs.Sends.{AreSends};
+ghost use Rattle.graph_base.specs.TaskLines.{IsGraph};
 ghost use Rattle.stream_lists.specs.Jobs.{Job, samples_at, with_samples};
 ghost use Rattle.stream_lists.specs.Ranges.{Where};
 ghost use Rattle.graph_runs.specs.Moments.{Moment, HasAnsweredNone, HasAnsweredNoneBefore, started};

@@ -1,15 +1,15 @@
 //! What a task owes after each event of a step.
 ghost use Rattle.std.specs.Prelude.{◌≡◌, ◌<◌, List, ℤ, [], ◌∷◌, ◌++◌, length};
-ghost use Rattle.stream_lists.specs.graph_base.Graphs.{task_at};
+ghost use Rattle.graph_base.specs.Graphs.{task_at};
 ghost use Rattle.graph_runs.specs.TaskPlaces as turns;
 ghost use Rattle.graph_runs.specs.Steps.{HasFilter, owed_of};
 
 use crate::filters::filtered;
 use crate::lines::{kind_of, output_in_turn};
 use crate::owed::Owed;
+use graph_base::Kind;
+use stream_filters::{Fir, Peer};
 use stream_lists::Job;
-use stream_lists::graph_base::Kind;
-use stream_lists::stream_filters::{Fir, Peer};
 
 /// Returns what task number `t` owes after the first wait of a step, which got `x`. It began
 /// `begun` steps before this one. A filter takes `x`. It takes no memory.

@@ -8,7 +8,7 @@ ghost use Rattle.graph_runs.specs.RunEnds.{Ends};
 ghost use Rattle.graph_runs.specs.Settled.{IsReady};
 ghost use Rattle.graph_runs.specs.Stops.{IsStop, IsFedStop, IsRightFor};
 ghost use Rattle.stream_lists.specs.Jobs.{Job, with_samples};
-ghost use Rattle.stream_lists.specs.graph_base.TaskLines.{IsGraph};
+ghost use Rattle.graph_base.specs.TaskLines.{IsGraph};
 
 use crate::feeds;
 

@@ -2,7 +2,7 @@
 ghost use Rattle.std.specs.Prelude.{◌≡◌};
 ghost use Rattle.stream_lists.specs.Lists.{number};
 
-use phase_history::phase_accum::Outcome;
+use phase_accum::Outcome;
 
 /// Returns the number that a task takes of a value, which is 0 where there is none or it is out of
 /// range. It takes no memory.

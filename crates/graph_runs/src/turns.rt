@@ -1,14 +1,14 @@
 //! What a turn makes is the task's next event. Each function here makes no call and has no effect:
 //! its contract is the law.
 ghost use Rattle.std.specs.Prelude.{◌≡◌, ◌≢◌, ◌+◌, ◌-◌, ◌<◌, ◌≤◌, ℕ, List, Option, Some, None, false, IsSome, length, slice_get, ℤ};
-ghost use Rattle.phase_history.specs.phase_accum.Sends.{AreSends};
-ghost use Rattle.phase_history.specs.phase_accum.declared.outcome.Outcome.{Outcome};
-ghost use Rattle.stream_lists.specs.graph_base.Graphs.{task_at};
-ghost use Rattle.stream_lists.specs.graph_base.Registrations.{signalled_by};
-ghost use Rattle.stream_lists.specs.graph_base.TaskLines.{IsGraph};
+ghost use Rattle.phase_accum.specs.Sends.{AreSends};
+ghost use Rattle.phase_accum.specs.declared.outcome.Outcome.{Outcome};
+ghost use Rattle.graph_base.specs.Graphs.{task_at};
+ghost use Rattle.graph_base.specs.Registrations.{signalled_by};
+ghost use Rattle.graph_base.specs.TaskLines.{IsGraph};
 ghost use Rattle.stream_lists.specs.Jobs.{Job, samples_at};
 ghost use Rattle.stream_lists.specs.Ranges.{Where};
-ghost use Rattle.stream_lists.specs.graph_base.declared.line.Parent.{Parent};
+ghost use Rattle.graph_base.specs.declared.line.Parent.{Parent};
 ghost use Rattle.graph_runs.specs.Moments.{Moment, HasRun, HasSamples, input_at};
 ghost use Rattle.graph_runs.specs.Moves.{further, MayBeginTo};
 ghost use Rattle.graph_runs.specs.Turned.{after_signals, after_waits, IsNextSamples, IsNextSignals, IsFirstWaits};

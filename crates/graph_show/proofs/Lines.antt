@@ -3,8 +3,8 @@ use Rattle.std.proofs.Common.{◌≡◌, ◌<◌, ◌+◌, ◌-◌, ◌∙◌, �
 use Rattle.std.specs.List.{slice_get, slice_split}
 use Rattle.std.proofs.lemmas.Option.{slice_get-get_or, slice_get-map}
 use Rattle.graph_lang.specs.declared.fault.GraphFault.{GraphFault}
-use Rattle.graph_lang.specs.graph_text.Texts.{is_line_feed, lines_of}
-use Rattle.graph_lang.specs.phase_base.Lists.{without_cr}
+use Rattle.graph_text.specs.Texts.{is_line_feed, lines_of}
+use Rattle.phase_base.specs.Lists.{without_cr}
 use Rattle.graph_show.specs.Explanations.{ExplainsKind, ExplainsLine}
 
 -- a line of the text is the piece of that number, without the carriage return at its end

@@ -2,17 +2,17 @@
 use Rattle.std.specs.Prelude.{ℕ, ℤ, ◌==◌, ◌||◌, nat_lt, unsigned_abs, Bool, if◌then◌else◌, List, [], ◌∷◌, ◌++◌, length, Option, None, Some, codes, decimal}
 use Rattle.std.specs.Fmt.{signed_decimal}
 use Rattle.std.specs.List.{concat, flat_map, range_with_len}
-use Rattle.graph_lang.specs.phase_base.OperationWords.{operation_word}
-use Rattle.graph_lang.specs.phase_accum.declared.single.Single.{Single}
-use Rattle.graph_lang.specs.phase_accum.declared.single.Single.TheVariants as single
-use Rattle.graph_lang.specs.graph_base.Graphs.{Graph, Task, name_at, phaser_at, task_at, file_at, source_number}
-use Rattle.graph_lang.specs.graph_base.Registrations.{signalled_by}
-use Rattle.graph_lang.specs.graph_base.declared.line.Kind.{Kind}
-use Rattle.graph_lang.specs.graph_base.declared.line.Kind.TheVariants.{Source, Fir, Split, Decimate, Join, Peer, Sink}
-use Rattle.graph_lang.specs.graph_base.declared.line.Parent.{Parent}
-use Rattle.graph_lang.specs.graph_base.stream_filters.declared.form.Form.{Form}
-use Rattle.graph_lang.specs.graph_base.declared.line.PhaserLine.{PhaserLine}
-use Rattle.graph_lang.specs.graph_base.declared.place.Place.TheVariants as place
+use Rattle.phase_base.specs.OperationWords.{operation_word}
+use Rattle.phase_accum.specs.declared.single.Single.{Single}
+use Rattle.phase_accum.specs.declared.single.Single.TheVariants as single
+use Rattle.graph_base.specs.Graphs.{Graph, Task, name_at, phaser_at, task_at, file_at, source_number}
+use Rattle.graph_base.specs.Registrations.{signalled_by}
+use Rattle.graph_base.specs.declared.line.Kind.{Kind}
+use Rattle.graph_base.specs.declared.line.Kind.TheVariants.{Source, Fir, Split, Decimate, Join, Peer, Sink}
+use Rattle.graph_base.specs.declared.line.Parent.{Parent}
+use Rattle.stream_filters.specs.declared.form.Form.{Form}
+use Rattle.graph_base.specs.declared.line.PhaserLine.{PhaserLine}
+use Rattle.graph_base.specs.declared.place.Place.TheVariants as place
 
 -- the first word of the line of a task of this kind
 abbrev pub kind_word : Kind → List ℕ

@@ -4,7 +4,7 @@ use Rattle.std.specs.Prelude.{◌≡◌, ◌⊎◌, ◌<◌, ◌≤◌, ◌+◌,
 use Rattle.std.specs.List.{concat}
 use Rattle.graph_lang.specs.declared.fault.FaultKind.{FaultKind}
 use Rattle.graph_lang.specs.declared.fault.GraphFault.{GraphFault}
-use Rattle.graph_lang.specs.graph_text.Texts.{is_printable, lines_of}
+use Rattle.graph_text.specs.Texts.{is_printable, lines_of}
 use Rattle.graph_show.specs.Forms.{form_told}
 
 -- a byte as it is shown: one that no line may have is a question mark

@@ -3,7 +3,7 @@ use Rattle.std.specs.Prelude.{ℕ, List, [], ◌∷◌, ◌++◌, codes, get_or,
 use Rattle.std.specs.Str.{bytes_eq}
 use Rattle.graph_lang.specs.declared.fault.FaultKind.{FaultKind}
 use Rattle.graph_lang.specs.declared.fault.FaultKind.TheVariants as kind
-use Rattle.graph_lang.specs.graph_text.Texts.{words_of_line}
+use Rattle.graph_text.specs.Texts.{words_of_line}
 
 -- the form of the lines that begin with this word, or nothing where no line does
 abbrev pub form_of : List ℕ → List ℕ

@@ -3,8 +3,8 @@
 use crate::explain_parts::Part;
 use crate::grammar::{Known, Reading};
 use crate::names::are_near;
-use graph_lang::graph_text::{Version, begins_comment, heading_of, without_cr, words_of};
-use graph_lang::phase_base::{BOUND_MAX, nat};
+use graph_text::{Version, begins_comment, heading_of, without_cr, words_of};
+use phase_base::{BOUND_MAX, nat};
 use std::alloc::{AllocError, Global};
 
 /// The words of each line above, each with what it is, but for the heading and the lines that are

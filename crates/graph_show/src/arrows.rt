@@ -1,9 +1,9 @@
 //! The arrows of a drawing.
 ghost use Rattle.std.specs.Prelude.{◌≡◌, ◌++◌, ◌<◌, length, OnOk, IfSome};
 ghost use Rattle.std.specs.List.{All, flat_map, range_with_len};
-ghost use Rattle.graph_lang.specs.graph_base.Graphs.{task_at};
-ghost use Rattle.graph_lang.specs.graph_base.GraphFields.{task_of};
-ghost use Rattle.graph_lang.specs.graph_base.Registrations.{signalled_by};
+ghost use Rattle.graph_base.specs.Graphs.{task_at};
+ghost use Rattle.graph_base.specs.GraphFields.{task_of};
+ghost use Rattle.graph_base.specs.Registrations.{signalled_by};
 ghost use Rattle.graph_show.specs.Drawings.{arrow, dashed, parent_arrow, signal_arrow, task_arrows, wait_arrow};
 
 use crate::parts::put;

@@ -1,7 +1,7 @@
 //! What the lines below a faulty one declare.
 
-use graph_lang::graph_text::{without_cr, words_of};
-use graph_lang::phase_base::is_kind_word;
+use graph_text::{without_cr, words_of};
+use phase_base::is_kind_word;
 use std::alloc::{AllocError, Global};
 
 /// The lines of a text from one on.

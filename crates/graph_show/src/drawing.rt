@@ -2,17 +2,17 @@
 ghost use Rattle.std.specs.Prelude.{◌≡◌, IfOk, OnOk, Err, true};
 ghost use Rattle.std.specs.Io.KnownBytes.{Appends};
 ghost use Rattle.graph_show.specs.Drawings.{drawing};
-ghost use Rattle.graph_lang.specs.watched_io.Prefix.{AppendsPrefix};
-ghost use Rattle.graph_lang.specs.watched_io.Watched.{has_failed_of, inner_of};
-ghost use Rattle.graph_lang.specs.watched_io.declared.fault.IoFault.TheVariants.{OutOfMemory, ReadFault, WriteFault};
+ghost use Rattle.watched_io.specs.Prefix.{AppendsPrefix};
+ghost use Rattle.watched_io.specs.Watched.{has_failed_of, inner_of};
+ghost use Rattle.watched_io.specs.declared.fault.IoFault.TheVariants.{OutOfMemory, ReadFault, WriteFault};
 
 use crate::arrows::put_arrows;
 use crate::nodes::{put_phasers, put_tasks};
 use crate::parts::put;
 use graph_lang::Graph;
-use graph_lang::watched_io::{IoFault, Watched};
 use std::alloc::{AllocError, Global};
 use std::io::Write;
+use watched_io::{IoFault, Watched};
 
 /// Makes the drawing of a graph, as text for Graphviz. It takes memory for the text.
 pub fn drawing_text(alloc: Global, graph: &Graph) -> Result<Vec<u8>, AllocError>

@@ -2,8 +2,8 @@
 
 use crate::wanted::Wanted;
 use graph_lang::Op;
-use graph_lang::graph_text::is_third_word;
-use graph_lang::phase_base::{is_file, is_int, is_kind_word, is_mark, is_name, is_nat};
+use graph_text::is_third_word;
+use phase_base::{is_file, is_int, is_kind_word, is_mark, is_name, is_nat};
 
 const A_NAME: &str =
     "a name: a letter, then letters, digits and _, at most 32 in all, and no word of the grammar";

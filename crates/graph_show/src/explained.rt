@@ -1,8 +1,7 @@
 //! The explanation of a graph's fault.
 ghost use Rattle.std.specs.Prelude.{◌≡◌, ◌≤◌, length, map, take, replicate, IfOk};
 ghost use Rattle.std.specs.List.{flat_map};
-ghost use Rattle.graph_show.specs.Explanations.{ExplainsFault, ExplainsKind, Marks, blank_under};
-ghost use Rattle.graph_show.specs.Explanations.{marked_text, shown};
+ghost use Rattle.graph_show.specs.Explanations.{ExplainsFault, ExplainsKind, Marks, blank_under, marked_text, shown};
 
 use crate::above::Above;
 use crate::below::Below;
@@ -11,8 +10,8 @@ use crate::grammar::Reading;
 use crate::mark::{Mark, mark_of};
 use crate::meeting_place::MeetingPlace;
 use crate::parts::put;
-use graph_lang::graph_text::{are_printable, lines_of, without_cr, words_of};
 use graph_lang::{FaultKind, GraphFault};
+use graph_text::{are_printable, lines_of, without_cr, words_of};
 use itoa::Buffer;
 use std::alloc::{AllocError, Global};
 

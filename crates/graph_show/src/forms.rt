@@ -4,7 +4,7 @@ ghost use Rattle.graph_show.specs.Forms.{first_word, form_line, form_of, form_to
 
 use crate::parts::put;
 use graph_lang::FaultKind;
-use graph_lang::graph_text::words_of;
+use graph_text::words_of;
 use std::alloc::{AllocError, Global};
 
 /// The form of the lines that begin with this word, or an empty text where no line does.

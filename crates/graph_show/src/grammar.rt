@@ -1,7 +1,7 @@
 //! The words of a line, each with what it is, as far as the line is in the grammar.
 
 use crate::explain_parts::Part;
-use graph_lang::graph_text::{Version, is_third_word};
+use graph_text::{Version, is_third_word};
 use std::alloc::{AllocError, Global};
 
 /// A word of a line, with what it is.

@@ -32,6 +32,4 @@ mod wanted;
 
 pub use drawing::{drawing_text, write_drawing};
 pub use explained::explanation;
-pub use graph_lang;
-pub use graph_lang::{graph_base, phase_accum, watched_io};
 pub use meeting_place::MeetingPlace;

@@ -2,10 +2,10 @@
 ghost use Rattle.std.specs.Prelude.{◌<◌, ◌^◌};
 
 use crate::explain_parts::Part;
-use graph_lang::phase_accum::MAGNITUDE_MAX;
-use graph_lang::phase_base::{BOUND_MAX, nat};
-use graph_lang::stream_filters::{DELAY_MAX, PLUS_MAX, SHIFT_MAX, TAP_MAX, TAPS_MAX};
 use graph_lang::{ENDS_MAX, EVERY_MAX, FACTOR_MAX, STEPS_MAX};
+use phase_accum::MAGNITUDE_MAX;
+use phase_base::{BOUND_MAX, nat};
+use stream_filters::{DELAY_MAX, PLUS_MAX, SHIFT_MAX, TAP_MAX, TAPS_MAX};
 
 /// The digits of a number, which stand behind `block=` or a minus where that is there.
 fn digits_in(word: &[u8]) -> &[u8] {

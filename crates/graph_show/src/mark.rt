@@ -8,7 +8,7 @@ use crate::limits::{count_passed, limit_passed, steps_of};
 use crate::meeting_place::MeetingPlace;
 use crate::wanted::Wanted;
 use graph_lang::FaultKind;
-use graph_lang::graph_text::Version;
+use graph_text::Version;
 use std::alloc::{AllocError, Global};
 
 /// The number of a word of the line, counted from 0, and what was expected in its place.

@@ -1,15 +1,15 @@
 //! The nodes of a drawing.
 ghost use Rattle.std.specs.Prelude.{◌≡◌, ◌++◌, ◌<◌, length, OnOk};
 ghost use Rattle.std.specs.List.{flat_map, range_with_len};
-ghost use Rattle.graph_lang.specs.phase_base.OperationWords.{operation_word};
+ghost use Rattle.phase_base.specs.OperationWords.{operation_word};
 ghost use Rattle.graph_show.specs.Drawings.{kind_word, node_end, node_start, phaser_node, phaser_notes, task_node, task_notes, task_word};
-ghost use Rattle.graph_lang.specs.graph_base.GraphFields.{task_of};
+ghost use Rattle.graph_base.specs.GraphFields.{task_of};
 
 use crate::notes::{
     is_delay, put_block_note, put_kind_notes, put_now_note, put_single_note, put_until_note,
 };
 use crate::parts::put;
-use graph_lang::graph_base::{PhaserLine, TaskLine};
+use graph_base::{PhaserLine, TaskLine};
 use graph_lang::{Graph, Kind, Op, Place};
 use itoa::Buffer;
 use std::alloc::AllocError;

@@ -1,15 +1,15 @@
 //! What the nodes of a drawing say below their names.
 ghost use Rattle.std.specs.Prelude.{◌≡◌, ◌++◌, ◌<◌, length, Some, None, OnOk};
 ghost use Rattle.std.specs.List.{flat_map};
-ghost use Rattle.graph_lang.specs.graph_base.Graphs.{task_at};
+ghost use Rattle.graph_base.specs.Graphs.{task_at};
 ghost use Rattle.graph_show.specs.Drawings.{block_note, clamp_ends, clamp_note, every_note, file_note, filter_note, is_delay, kind_notes, note, now_note, peer_note, plus_note, quoted, single_note, tap_text, taps_note, until_note};
 
 use crate::parts::put;
-use graph_lang::phase_accum::Single;
-use graph_lang::stream_filters::Form;
 use graph_lang::{Graph, Kind};
 use itoa::Buffer;
+use phase_accum::Single;
 use std::alloc::AllocError;
+use stream_filters::Form;
 
 /// Puts a clamp with its ends behind the text.
 fn put_clamp_note(text: &mut Vec<u8>, low: i64, high: i64) -> Result<(), AllocError>

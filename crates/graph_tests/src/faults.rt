@@ -1,9 +1,9 @@
 //! Runs that come to a value out of range.
 use crate::jobs::at_bound;
 use crate::rounds::{Round, given, ran};
+use graph_base::Place;
 use std::alloc::Global;
 use std::test::Fail;
-use stream_job::graph_base::Place;
 
 /// A graph with a `?` for the bound of each phaser, the samples of its sources, where a value is
 /// out of range first, and what the sinks have by then.
@@ -18,7 +18,7 @@ struct Case {
 
 const BOUNDS: [u64; 4] = [1, 2, 4, 64];
 
-const CASES: [Case; 5] = [
+static CASES: [Case; 5] = [
     Case {
         name: "an output out of range is told",
         graph: "phaser X sum ?\nphaser Y sum ?\nsource s s.csv -> X\n\

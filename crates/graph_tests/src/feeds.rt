@@ -1,8 +1,8 @@
 //! Runs of graphs whose samples come in pieces.
 use crate::jobs::job_of;
+use graph_lang::read_graph;
 use std::alloc::{AllocError, Global};
 use std::test::Fail;
-use stream_job::graph_lang::read_graph;
 use stream_job::{Job, Stopped, Stream};
 
 /// What is done with a run that is fed.

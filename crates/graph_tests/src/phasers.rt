@@ -1,13 +1,13 @@
 //! What a phaser under any operation tells of itself, where a run of the library for C does not:
 //! who is left, and how far they are. Values and refusals under each operation are rows of
 //! `bindings/tests`.
+use phase_accum::Op;
+use phase_any::AnyPhaser;
+use phase_base::{Mode, Spec};
 use std::alloc::Global;
 use std::test::Fail;
-use stream_job::phase_accum::Op;
-use stream_job::phase_any::AnyPhaser;
-use stream_job::phase_base::{Mode, Spec};
 
-const ALL: [Op; 5] = [Op::Sum, Op::Product, Op::Least, Op::Greatest, Op::Any];
+static ALL: [Op; 5] = [Op::Sum, Op::Product, Op::Least, Op::Greatest, Op::Any];
 
 /// What a phaser tells: its first phase that is not complete, the least wait phase, whether there
 /// is a signaller, and the next number.

@@ -1,5 +1,5 @@
 //! What a job tells is all that the laws of runs ask for.
-ghost use Rattle.stream_job.specs.graph_runs.Settled.{IsReady};
+ghost use Rattle.graph_runs.specs.Settled.{IsReady};
 
 use stream_job::Job;
 

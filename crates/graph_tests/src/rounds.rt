@@ -2,9 +2,9 @@
 ghost use Rattle.std.specs.Prelude.{◌≡◌};
 
 use crate::jobs::job_of;
+use graph_base::Place;
 use std::alloc::{AllocError, Global};
 use std::test::Fail;
-use stream_job::graph_base::Place;
 use stream_job::{EvalFault, Job, Lines, RunTurnsFault, Turned, World, eval, run_turns};
 
 /// What a round of turns came to, one turn for each task.

@@ -16,7 +16,7 @@ enum Way {
     WholeLists,
 }
 
-const WAYS: [Way; 3] = [Way::Rotation, Way::GivenTurns, Way::WholeLists];
+static WAYS: [Way; 3] = [Way::Rotation, Way::GivenTurns, Way::WholeLists];
 
 const BOUNDS: [u64; 5] = [1, 2, 4, 64, 65536];
 
@@ -29,7 +29,7 @@ struct Case {
     lines: &'static str,
 }
 
-const CASES: [Case; 27] = [
+static CASES: [Case; 27] = [
     Case {
         name: "a filter rounds down",
         graph: "phaser X sum ?\nphaser Y sum ?\nsource s s.csv -> X\n\

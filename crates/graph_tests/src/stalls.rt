@@ -37,7 +37,7 @@ struct Case {
 /// `k` values, the filter of the input has signalled `k + bound` and holds one more; so the source
 /// has signalled `k + 2 * bound + 1`, of which the other filter has every second one, `k` in all.
 /// So `k` is `2 * bound + 1`, and sample `4 * bound + 3` cannot be signalled.
-const CASES: [Case; 4] = [
+static CASES: [Case; 4] = [
     Case {
         name: "six samples of bound 1 come to an end",
         bound: 1,

@@ -13,7 +13,7 @@ struct Case {
     told: &'static str,
 }
 
-const CASES: [Case; 12] = [
+static CASES: [Case; 12] = [
     Case {
         name: "a sum waits for the source that has no sample, and then goes on without it",
         graph: "phaser X sum 2\nsource a a.csv -> X\nsource b b.csv -> X\nsink out X\n",

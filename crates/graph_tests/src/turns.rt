@@ -1,9 +1,9 @@
 //! Turns in a given order.
 use crate::jobs::{at_bound, job_of};
 use crate::rounds::{in_rotation, one_round, text_of};
+use graph_base::Place;
 use std::alloc::{AllocError, Global};
 use std::test::Fail;
-use stream_job::graph_base::Place;
 use stream_job::{Job, Turned, World, run_turns};
 
 /// A graph with a `?` for the bound of each phaser, the samples of its source, how many rounds of
@@ -30,7 +30,7 @@ const SECOND: Turned = Turned::TooBig {
     phase: 1,
 };
 
-const CASES: [Case; 8] = [
+static CASES: [Case; 8] = [
     Case {
         name: "each turn makes one event",
         graph: "phaser X sum ?\nphaser Y sum ?\nsource s s.csv -> X\n\

@@ -15,7 +15,7 @@ struct Case {
     opening: &'static str,
 }
 
-const CASES: [Case; 4] = [
+static CASES: [Case; 4] = [
     // late comes after a step of out
     Case {
         name: "a source signals, and others wait",

@@ -4,4 +4,3 @@ pub mod Lines
 pub mod Plain
 pub mod Texts
 pub mod Versions
-pub use Rattle.phase_base.specs as phase_base

@@ -12,7 +12,6 @@ mod version;
 
 pub use line::{Body, By, Ends, Function, Line, PhaserWords, TaskWords};
 pub use number::{int_within, nat_within};
-pub use phase_base;
 pub use phase_base::{FILE_MAX, NAME_MAX, Op, file_text, name_text, without_cr};
 pub use read::line_at;
 pub use text::{are_printable, begins_comment, lines_of, words_of};

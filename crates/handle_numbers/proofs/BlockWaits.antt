@@ -4,16 +4,16 @@ use Rattle.std.specs.List.{range_with_len}
 use Rattle.std.proofs.Math.Seq.{take-append_seam}
 use Rattle.std.proofs.lemmas.List.FromFn.{length-range_with_len}
 use Rattle.std.proofs.lemmas.List.{append_assoc, drop_more, length-drop, length-map, length-take-le, map_more, set-append_right}
-use Rattle.phase_core.specs.phase_base.Limits.{Limits}
-use Rattle.phase_core.specs.phase_accum.declared.outcome.Outcome.{Outcome}
-use Rattle.phase_core.specs.phase_history.declared.got.GotBlock.{GotBlock}
-use Rattle.phase_core.specs.phase_history.declared.got.GotBlock.TheVariants as block
-use Rattle.phase_core.specs.phase_history.declared.refusal.WaitRefusal.{WaitRefusal}
-use Rattle.phase_core.specs.phase_history.Histories.{History, done_of}
-use Rattle.phase_core.specs.phase_history.Phases.{stream_of, value_of_phase}
-use Rattle.phase_core.specs.phase_history.Replies.{wait_block_reply}
+use Rattle.phase_base.specs.Limits.{Limits}
+use Rattle.phase_accum.specs.declared.outcome.Outcome.{Outcome}
+use Rattle.phase_history.specs.declared.got.GotBlock.{GotBlock}
+use Rattle.phase_history.specs.declared.got.GotBlock.TheVariants as block
+use Rattle.phase_history.specs.declared.refusal.WaitRefusal.{WaitRefusal}
+use Rattle.phase_history.specs.Histories.{History, done_of}
+use Rattle.phase_history.specs.Phases.{stream_of, value_of_phase}
+use Rattle.phase_history.specs.Replies.{wait_block_reply}
 use Rattle.phase_core.specs.Blocks.{written}
-use Rattle.phase_core.proofs.phase_history_lemmas.BlockAnswers.{block_answers_law}
+use Rattle.phase_history.proofs.BlockAnswers.{block_answers_law}
 use Rattle.handle_numbers.specs.Blocks.{numbers_written, numbers_after}
 use Rattle.handle_numbers.specs.Numbers.{value_number}
 

@@ -1,9 +1,9 @@
 -- Blocks of phases: what a wait writes.
 use Rattle.std.specs.Prelude.{ℕ, ◌+◌, ℤ, List, ◌++◌, map, drop, slice_range, Result, Ok, Err}
-use Rattle.phase_core.specs.phase_accum.declared.outcome.Outcome.{Outcome}
-use Rattle.phase_core.specs.phase_history.declared.got.GotBlock.{GotBlock}
-use Rattle.phase_core.specs.phase_history.declared.got.GotBlock.TheVariants as block
-use Rattle.phase_core.specs.phase_history.declared.refusal.WaitRefusal.{WaitRefusal}
+use Rattle.phase_accum.specs.declared.outcome.Outcome.{Outcome}
+use Rattle.phase_history.specs.declared.got.GotBlock.{GotBlock}
+use Rattle.phase_history.specs.declared.got.GotBlock.TheVariants as block
+use Rattle.phase_history.specs.declared.refusal.WaitRefusal.{WaitRefusal}
 use Rattle.handle_numbers.specs.Numbers.{value_number}
 
 -- what stands in the places of a wait that got so many phases of the stream, from the first on: the

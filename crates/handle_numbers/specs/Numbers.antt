@@ -1,25 +1,25 @@
 -- The numbers by which C names operations, modes and singles, and those that calls answer.
 use Rattle.std.specs.Prelude.{◌≡◌, ◌==◌, ℕ, ℤ, if◌then◌else◌, Option, Some, None, Result, Ok, Err}
-use Rattle.phase_core.specs.phase_base.declared.operation.Op.{Op}
-use Rattle.phase_core.specs.phase_base.declared.operation.Op.TheVariants as op
-use Rattle.phase_core.specs.phase_base.declared.mode.Mode.{Mode}
-use Rattle.phase_core.specs.phase_base.declared.mode.Mode.TheVariants as mode
-use Rattle.phase_core.specs.phase_accum.declared.single.Single.{Single}
-use Rattle.phase_core.specs.phase_accum.declared.single.Single.TheVariants as single
-use Rattle.phase_core.specs.phase_accum.declared.outcome.Outcome.{Outcome}
-use Rattle.phase_core.specs.phase_accum.declared.outcome.Outcome.TheVariants as outcome
-use Rattle.phase_core.specs.phase_accum.declared.outcome.TheConstants.{NO_VALUE}
-use Rattle.phase_core.specs.phase_accum.Ranges.{IsRange}
-use Rattle.phase_core.specs.phase_history.declared.got.Got.{Got}
-use Rattle.phase_core.specs.phase_history.declared.got.Got.TheVariants as got
-use Rattle.phase_core.specs.phase_history.declared.got.GotBlock.{GotBlock}
-use Rattle.phase_core.specs.phase_history.declared.got.GotBlock.TheVariants as block
-use Rattle.phase_core.specs.phase_history.declared.refusal.RegisterRefusal.{RegisterRefusal}
-use Rattle.phase_core.specs.phase_history.declared.refusal.RegisterRefusal.TheVariants as register
-use Rattle.phase_core.specs.phase_history.declared.refusal.SignalRefusal.{SignalRefusal}
-use Rattle.phase_core.specs.phase_history.declared.refusal.SignalRefusal.TheVariants as signal
-use Rattle.phase_core.specs.phase_history.declared.refusal.WaitRefusal.{WaitRefusal}
-use Rattle.phase_core.specs.phase_history.declared.refusal.WaitRefusal.TheVariants as wait
+use Rattle.phase_base.specs.declared.operation.Op.{Op}
+use Rattle.phase_base.specs.declared.operation.Op.TheVariants as op
+use Rattle.phase_base.specs.declared.mode.Mode.{Mode}
+use Rattle.phase_base.specs.declared.mode.Mode.TheVariants as mode
+use Rattle.phase_accum.specs.declared.single.Single.{Single}
+use Rattle.phase_accum.specs.declared.single.Single.TheVariants as single
+use Rattle.phase_accum.specs.declared.outcome.Outcome.{Outcome}
+use Rattle.phase_accum.specs.declared.outcome.Outcome.TheVariants as outcome
+use Rattle.phase_accum.specs.declared.outcome.TheConstants.{NO_VALUE}
+use Rattle.phase_accum.specs.Ranges.{IsRange}
+use Rattle.phase_history.specs.declared.got.Got.{Got}
+use Rattle.phase_history.specs.declared.got.Got.TheVariants as got
+use Rattle.phase_history.specs.declared.got.GotBlock.{GotBlock}
+use Rattle.phase_history.specs.declared.got.GotBlock.TheVariants as block
+use Rattle.phase_history.specs.declared.refusal.RegisterRefusal.{RegisterRefusal}
+use Rattle.phase_history.specs.declared.refusal.RegisterRefusal.TheVariants as register
+use Rattle.phase_history.specs.declared.refusal.SignalRefusal.{SignalRefusal}
+use Rattle.phase_history.specs.declared.refusal.SignalRefusal.TheVariants as signal
+use Rattle.phase_history.specs.declared.refusal.WaitRefusal.{WaitRefusal}
+use Rattle.phase_history.specs.declared.refusal.WaitRefusal.TheVariants as wait
 use Rattle.handle_numbers.specs.declared.numbers.TheConstants.{GOOD, ENDED, OUT_OF_MEMORY, NO_TASK, NOT_ALLOWED, NOT_NEW, TOO_MANY_TASKS, NO_SIGNAL, NOT_SINGLE, BAD_BLOCK, SIGNAL_TWICE, SPENT, AHEAD, SINGLE_DIFFERS, PHASE_FULL, NO_WAIT, SIGNAL_FIRST, NOT_YET, SUM, PRODUCT, LEAST, GREATEST, ANY, SIG, WAIT, SIG_WAIT, SINGLE, NONE, NEG, ABS, HALVE, CLAMP}
 
 -- the operation of a number

@@ -1,13 +1,13 @@
 //! Places for what a wait for a block gets, and the numbers of what stands in them.
 ghost use Rattle.std.specs.Prelude.{◌≡◌, ◌≤◌, ◌++◌, ℕ, length, map, drop, IfOk};
-ghost use Rattle.phase_core.specs.phase_base.Limits.{Limits, AreLimits};
-ghost use Rattle.phase_core.specs.phase_history.Histories.{History};
-ghost use Rattle.phase_core.specs.phase_history.Replies.{wait_block_reply};
+ghost use Rattle.phase_base.specs.Limits.{Limits, AreLimits};
+ghost use Rattle.phase_history.specs.Histories.{History};
+ghost use Rattle.phase_history.specs.Replies.{wait_block_reply};
 ghost use Rattle.handle_numbers.specs.Numbers.{value_number};
 
 use crate::codes::value_code;
-use phase_core::phase_accum::Outcome;
-use phase_core::phase_base::BOUND_MAX;
+use phase_accum::Outcome;
+use phase_base::BOUND_MAX;
 use std::alloc::{AllocError, Global};
 
 /// Makes places for a wait for at most so many phases. A wait for more than `BOUND_MAX` is refused,

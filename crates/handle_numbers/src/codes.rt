@@ -1,11 +1,11 @@
 //! Numbers of C as what they name, and what calls answer as numbers.
 ghost use Rattle.std.specs.Prelude.{◌≡◌, ℤ, IfSome, Some, None, Option};
-ghost use Rattle.phase_core.specs.phase_accum.declared.single.Single.{Single};
+ghost use Rattle.phase_accum.specs.declared.single.Single.{Single};
 ghost use Rattle.handle_numbers.specs.Numbers.{op_numbered, op_number, mode_numbered, mode_number, register_number, signal_number, wait_number, value_number, Names};
 
 use crate::numbers::*;
-use phase_core::phase_accum::{NO_VALUE, Op, Outcome, Single};
-use phase_core::phase_base::Mode;
+use phase_accum::{NO_VALUE, Op, Outcome, Single};
+use phase_base::Mode;
 use phase_core::{RegisterRefusal, SignalRefusal, WaitRefusal};
 
 /// The operation of a number.

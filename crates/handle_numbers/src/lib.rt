@@ -12,4 +12,3 @@ pub use codes::{
     mode_code, mode_of, op_code, op_of, register_code, signal_code, single_of, value_code,
     wait_code,
 };
-pub use phase_core;

@@ -3,14 +3,14 @@ use Rattle.std.proofs.Common.{◌≡◌, ◌≤◌, ℕ, ℤ, List, Ok, Some, ma
 use Rattle.std.proofs.lemmas.List.Elements.{All-map}
 use Rattle.std.specs.List.{All}
 use Rattle.phase.specs.Runs.{BeginInTime}
-use Rattle.stream_workers.specs.graph_commands.stream_lists.graph_base.Graphs.{task_at}
-use Rattle.stream_workers.specs.graph_commands.stream_lists.Jobs.{Job, with_starts}
-use Rattle.stream_workers.specs.graph_commands.stream_lists.Lists.{lines_of, start_in}
-use Rattle.stream_workers.specs.graph_commands.stream_lists.Ranges.{answer_of}
-use Rattle.stream_workers.specs.graph_commands.stream_lists.Spans.{lengths_of}
-use Rattle.stream_workers.specs.stream_eval.Results.{sink_values}
-use Rattle.stream_workers.specs.stream_eval.declared.whole.Lines.{Lines}
-use Rattle.stream_workers.proofs.stream_eval_lemmas.stream_lists_lemmas.Basics.{answer_fits}
+use Rattle.graph_base.specs.Graphs.{task_at}
+use Rattle.stream_lists.specs.Jobs.{Job, with_starts}
+use Rattle.stream_lists.specs.Lists.{lines_of, start_in}
+use Rattle.stream_lists.specs.Ranges.{answer_of}
+use Rattle.stream_lists.specs.Spans.{lengths_of}
+use Rattle.stream_eval.specs.Results.{sink_values}
+use Rattle.stream_eval.specs.declared.whole.Lines.{Lines}
+use Rattle.stream_lists.proofs.Basics.{answer_fits}
 
 -- and it is the lines of its sinks
 pub answer-lines : (job : Job) (lines : List (ℕ × List ℤ)) → answer_of job ≡ Ok lines → lines ≡ lines_of job

@@ -1,17 +1,17 @@
 -- Which statuses may come of a run.
 use Rattle.std.proofs.Common.{◌≡◌, ◌≢◌, ◌⊎◌, inl, inr, ℕ, List, refl}
 use Rattle.phase.specs.Ends.{MayEndAsRun}
-use Rattle.phase_eval.proofs.phase_words_lemmas.Answering.{stalled-taken}
-use Rattle.phase_eval.specs.phase_words.Answers.{MayEnd}
-use Rattle.phase_eval.specs.phase_words.RunLine.{AreRunTaken, run_kinds_of}
-use Rattle.stream_workers.specs.graph_commands.Failures.{failure_status}
-use Rattle.stream_workers.specs.graph_commands.GraphRuns.{job_status}
-use Rattle.stream_workers.specs.graph_commands.declared.failure.Failure.{Failure}
-use Rattle.stream_workers.specs.graph_commands.declared.failure.Failure.TheVariants as failure
-use Rattle.stream_workers.specs.graph_commands.declared.fault.JobFault.{JobFault}
-use Rattle.stream_workers.specs.graph_commands.declared.fault.JobFault.TheVariants as fault
-use Rattle.stream_workers.specs.graph_commands.watched_io.declared.status.Status.{Status}
-use Rattle.stream_workers.specs.graph_commands.watched_io.declared.status.Status.TheVariants.{Refused, Stalled}
+use Rattle.phase_words.proofs.Answering.{stalled-taken}
+use Rattle.phase_words.specs.Answers.{MayEnd}
+use Rattle.phase_words.specs.RunLine.{AreRunTaken, run_kinds_of}
+use Rattle.graph_commands.specs.Failures.{failure_status}
+use Rattle.graph_commands.specs.GraphRuns.{job_status}
+use Rattle.graph_commands.specs.declared.failure.Failure.{Failure}
+use Rattle.graph_commands.specs.declared.failure.Failure.TheVariants as failure
+use Rattle.graph_commands.specs.declared.fault.JobFault.{JobFault}
+use Rattle.graph_commands.specs.declared.fault.JobFault.TheVariants as fault
+use Rattle.watched_io.specs.declared.status.Status.{Status}
+use Rattle.watched_io.specs.declared.status.Status.TheVariants.{Refused, Stalled}
 
 job-ends : (found : JobFault) → MayEndAsRun (job_status found)
 job-ends (fault.Graph found) = inr (inl refl)

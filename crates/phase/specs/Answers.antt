@@ -2,15 +2,15 @@
 use Rattle.std.specs.Prelude.{◌≡◌, ◌⊎◌, ℕ, Bool, List, [], Option}
 use Rattle.clap.specs.Words.{Kinds, Text}
 use Rattle.phase_commands.specs.Ends.{EndsAs, LeavesAlone, MayEndAsked}
-use Rattle.phase_commands.specs.graph_commands.FileJobs.{Known}
-use Rattle.phase_commands.specs.graph_commands.watched_io.States.{WriterState, reader_state, writer_state}
-use Rattle.phase_commands.specs.graph_commands.watched_io.declared.status.Status.{Status}
-use Rattle.phase_commands.specs.graph_commands.watched_io.declared.watched.Watched.{Watched}
-use Rattle.phase_commands.specs.phase_replay.Replays.{ReplayEnds}
-use Rattle.phase_commands.specs.phase_words.Answers.{AnswerEnds, IsUnbegun, MayEnd}
-use Rattle.phase_commands.specs.phase_words.CommandLine.{Asked, AskReplay, Asks, kinds_of}
-use Rattle.phase_commands.specs.phase_words.RunLine.{AsksRun, AsksWorkers, Run, run_kinds_of, workers_kinds_of}
-use Rattle.phase_commands.specs.phase_words.StreamLine.{AsksStream, Stream, stream_kinds_of}
+use Rattle.graph_commands.specs.FileJobs.{Known}
+use Rattle.watched_io.specs.States.{WriterState, reader_state, writer_state}
+use Rattle.watched_io.specs.declared.status.Status.{Status}
+use Rattle.watched_io.specs.declared.watched.Watched.{Watched}
+use Rattle.phase_replay.specs.Replays.{ReplayEnds}
+use Rattle.phase_words.specs.Answers.{AnswerEnds, IsUnbegun, MayEnd}
+use Rattle.phase_words.specs.CommandLine.{Asked, AskReplay, Asks, kinds_of}
+use Rattle.phase_words.specs.RunLine.{AsksRun, AsksWorkers, Run, run_kinds_of, workers_kinds_of}
+use Rattle.phase_words.specs.StreamLine.{AsksStream, Stream, stream_kinds_of}
 use Rattle.phase_eval.specs.Ends.{EndsAsEval, MayEndAsEval}
 use Rattle.phase.specs.Ends.{AskNoCounts, EndsAsRun, MayEndAsRun}
 use Rattle.phase_stream.specs.Ends.{EndsAsStreamed, MayEndAsStream}

@@ -1,15 +1,15 @@
 -- How a run of the program may end, by what its words ask for.
 use Rattle.std.specs.Prelude.{◌≡◌, ◌⊎◌, ℕ, Bool, true, false, List, Option}
 use Rattle.phase.specs.Runs.{RunEnds}
-use Rattle.phase_eval.specs.phase_words.RunLine.{AreRunTaken, Run, run_in}
-use Rattle.stream_workers.specs.graph_commands.Explained.{AreFurtherLines}
-use Rattle.stream_workers.specs.graph_commands.FileJobs.{Known}
-use Rattle.stream_workers.specs.graph_commands.Folders.{known_by}
-use Rattle.stream_workers.specs.graph_commands.watched_io.States.{WriterState}
-use Rattle.stream_workers.specs.graph_commands.watched_io.Statuses.{Says}
-use Rattle.stream_workers.specs.graph_commands.watched_io.declared.status.Status.{Status}
-use Rattle.stream_workers.specs.graph_commands.watched_io.declared.status.Status.TheVariants.{Done, Failed, GraphRefused, Stalled, TooBig}
-use Rattle.stream_workers.specs.graph_commands.watched_io.declared.watched.Watched.{Watched}
+use Rattle.phase_words.specs.RunLine.{AreRunTaken, Run, run_in}
+use Rattle.graph_commands.specs.Explained.{AreFurtherLines}
+use Rattle.graph_commands.specs.FileJobs.{Known}
+use Rattle.graph_commands.specs.Folders.{known_by}
+use Rattle.watched_io.specs.States.{WriterState}
+use Rattle.watched_io.specs.Statuses.{Says}
+use Rattle.watched_io.specs.declared.status.Status.{Status}
+use Rattle.watched_io.specs.declared.status.Status.TheVariants.{Done, Failed, GraphRefused, Stalled, TooBig}
+use Rattle.watched_io.specs.declared.watched.Watched.{Watched}
 
 -- the statuses of a run of a graph
 abbrev pub MayEndAsRun : Status → Type 0

@@ -2,22 +2,22 @@
 use Rattle.std.specs.Prelude.{◌≡◌, ◌≤◌, ℕ, List, get_or, Some}
 use Rattle.std.specs.List.{All}
 use Rattle.std.specs.declared.option.Option.{Option}
-use Rattle.stream_workers.specs.graph_commands.Ends.{EndsBy}
-use Rattle.stream_workers.specs.graph_commands.Failures.{FailsBy, IsUnanswered}
-use Rattle.stream_workers.specs.graph_commands.FileJobs.{IsJobOf, Known}
-use Rattle.stream_workers.specs.graph_commands.GraphRuns.{AsksSink, sinks_text}
-use Rattle.stream_workers.specs.graph_commands.declared.failure.Failure.{Failure}
-use Rattle.stream_workers.specs.graph_commands.stream_lists.graph_base.Graphs.{task_at}
-use Rattle.stream_workers.specs.graph_commands.stream_lists.Jobs.{Job, with_starts}
-use Rattle.stream_workers.specs.graph_commands.stream_lists.Lists.{lines_of, start_in}
-use Rattle.stream_workers.specs.graph_commands.stream_lists.Ranges.{Fits}
-use Rattle.stream_workers.specs.graph_commands.stream_lists.Spans.{lengths_of}
-use Rattle.stream_workers.specs.graph_commands.watched_io.Prefix.{AppendsPrefix}
+use Rattle.graph_commands.specs.Ends.{EndsBy}
+use Rattle.graph_commands.specs.Failures.{FailsBy, IsUnanswered}
+use Rattle.graph_commands.specs.FileJobs.{IsJobOf, Known}
+use Rattle.graph_commands.specs.GraphRuns.{AsksSink, sinks_text}
+use Rattle.graph_commands.specs.declared.failure.Failure.{Failure}
+use Rattle.graph_base.specs.Graphs.{task_at}
+use Rattle.stream_lists.specs.Jobs.{Job, with_starts}
+use Rattle.stream_lists.specs.Lists.{lines_of, start_in}
+use Rattle.stream_lists.specs.Ranges.{Fits}
+use Rattle.stream_lists.specs.Spans.{lengths_of}
+use Rattle.watched_io.specs.Prefix.{AppendsPrefix}
 use Rattle.std.specs.Io.KnownBytes.{Appends}
-use Rattle.stream_workers.specs.graph_commands.watched_io.States.{WriterState, writer_state}
-use Rattle.stream_workers.specs.graph_commands.watched_io.declared.explain.Explain.{Explain}
-use Rattle.stream_workers.specs.graph_commands.watched_io.declared.status.Status.{Status}
-use Rattle.stream_workers.specs.graph_commands.watched_io.declared.watched.Watched.{Watched}
+use Rattle.watched_io.specs.States.{WriterState, writer_state}
+use Rattle.watched_io.specs.declared.explain.Explain.{Explain}
+use Rattle.watched_io.specs.declared.status.Status.{Status}
+use Rattle.watched_io.specs.declared.watched.Watched.{Watched}
 
 -- each sink that joins now begins at most one phase behind the last of its phaser's list
 abbrev pub BeginInTime : List ℕ → Job → Type 0

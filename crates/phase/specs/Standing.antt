@@ -6,7 +6,7 @@ use Rattle.phase.specs.declared.way.Own.{Own}
 use Rattle.phase.specs.declared.way.Own.TheVariants as own
 use Rattle.phase.specs.declared.way.Way.{Way as WayOfWords}
 use Rattle.phase.specs.declared.way.Way.TheVariants as way
-use Rattle.phase_commands.specs.phase_words.CommandLine.{texts}
+use Rattle.phase_words.specs.CommandLine.{texts}
 
 -- the words of a command
 abbrev pub own_texts : Own → List Text

@@ -5,21 +5,21 @@ ghost use Rattle.phase.specs.Answers.{AsksNoCounts, EvalAnswers, OthersAnswer, R
 ghost use Rattle.phase.specs.Standing.{own_texts};
 ghost use Rattle.phase.specs.Ways.{by_workers, others, run, stream, way_of};
 ghost use Rattle.phase.specs.Ends.{AskNoCounts};
-ghost use Rattle.phase_commands.specs.phase_words.Answers.{IsAnswer, OfStreams, Wrote};
-ghost use Rattle.phase_commands.specs.phase_words.CommandLine.{texts};
+ghost use Rattle.phase_words.specs.Answers.{IsAnswer, OfStreams, Wrote};
+ghost use Rattle.phase_words.specs.CommandLine.{texts};
 
 use crate::run::run_graph;
 use crate::way::{Own, Way, help_word, way_of};
-use phase_commands::graph_commands::{LooksBeside, Refuses};
-use phase_commands::phase_replay::Watched;
-use phase_commands::phase_replay::watched_io::{Status, Streams};
-use phase_commands::phase_words::{NoCall, answer};
+use graph_commands::{LooksBeside, Refuses};
+use phase_replay::Watched;
 use phase_stream::Opens;
+use phase_words::{NoCall, answer};
 use std::alloc::Global;
 use std::io::{Read, Write};
 use std::sync::Wait;
 use std::thread::Threads;
 use std::time::Clock;
+use watched_io::{Status, Streams};
 
 /// Runs the program on its words, without its own name, and answers its status: that of `run` or of
 /// `stream` on the words behind its name, of `eval` by workers on those behind its name where one

@@ -11,11 +11,11 @@ mod way;
 
 use cli::run_cli;
 use phase_commands::hold_closed_streams;
-use phase_commands::phase_replay::Watched;
-use phase_commands::phase_replay::watched_io::{Streams, own_words, refuse_words};
+use phase_replay::Watched;
 use phase_stream::StreamFiles;
 use std::io::IsTerminal;
 use std::process::ExitCode;
+use watched_io::{Streams, own_words, refuse_words};
 use way::is_bare;
 
 /// What a person at a terminal is told where the input is replayed.

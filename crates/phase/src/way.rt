@@ -3,7 +3,7 @@ ghost use Rattle.std.specs.Prelude.{◌≡◌, ◌∷◌, IfOk, [], codes};
 ghost use Rattle.std.specs.List.{list_any};
 ghost use Rattle.phase.specs.Ways.{is_bare, is_by_workers, names_workers, way_named, way_of};
 ghost use Rattle.phase.specs.Standing.{own_texts, way_by};
-ghost use Rattle.phase_commands.specs.phase_words.CommandLine.{texts};
+ghost use Rattle.phase_words.specs.CommandLine.{texts};
 
 use std::alloc::{AllocError, Global};
 

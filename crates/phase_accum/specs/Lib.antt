@@ -12,4 +12,3 @@ pub mod Sends
 pub mod Singles
 pub mod Sums
 pub mod Values
-pub use Rattle.phase_base.specs as phase_base

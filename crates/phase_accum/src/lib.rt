@@ -22,7 +22,6 @@ pub use greatest::Greatest;
 pub use least::Least;
 pub use outcome::{MAGNITUDE_MAX, NO_VALUE, Outcome, VALUE_MAX};
 pub use pending::{Pending, SendFault};
-pub use phase_base;
 pub use phase_base::Op;
 pub use product::Product;
 pub use range::{BadClamp, Range};

@@ -1,9 +1,9 @@
 -- Sends that are held are not refused.
 use Rattle.std.proofs.Common.{◌≡◌, ◌≤◌, ℤ, subst, arith}
 use Rattle.std.specs.Prelude.{unsigned_abs, Result, Err}
-use Rattle.phase_core.specs.phase_accum.declared.outcome.TheConstants.{NO_VALUE}
-use Rattle.phase_core.specs.phase_accum.declared.pending.SendFault.{SendFault}
-use Rattle.phase_core.specs.phase_accum.Sends.{IsSend, value_max}
+use Rattle.phase_accum.specs.declared.outcome.TheConstants.{NO_VALUE}
+use Rattle.phase_accum.specs.declared.pending.SendFault.{SendFault}
+use Rattle.phase_accum.specs.Sends.{IsSend, value_max}
 
 -- a value that can be sent is held where there is room
 pub no-fault : (r : Result (Unit {0}) SendFault) (fault : SendFault) → r ≡ Err fault

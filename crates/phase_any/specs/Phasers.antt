@@ -1,15 +1,15 @@
 -- The histories that a phaser stands for, whatever its operation.
 use Rattle.std.specs.Prelude.{◌≡◌, ℕ, Some, unwrap_or}
-use Rattle.phase_core.specs.phase_base.Limits.{Limits}
-use Rattle.phase_core.specs.phase_base.declared.operation.Op.{Op}
-use Rattle.phase_core.specs.phase_base.declared.operation.Op.TheVariants as op
-use Rattle.phase_core.specs.phase_accum.Sums.{sum_operation}
-use Rattle.phase_core.specs.phase_accum.Products.{product_operation}
-use Rattle.phase_core.specs.phase_accum.Leasts.{least_operation}
-use Rattle.phase_core.specs.phase_accum.Greatests.{greatest_operation}
-use Rattle.phase_core.specs.phase_accum.Anys.{any_operation}
-use Rattle.phase_core.specs.phase_history.Histories.{History, greatest_used}
-use Rattle.phase_core.specs.phase_registry.Rosters.{next_after}
+use Rattle.phase_base.specs.Limits.{Limits}
+use Rattle.phase_base.specs.declared.operation.Op.{Op}
+use Rattle.phase_base.specs.declared.operation.Op.TheVariants as op
+use Rattle.phase_accum.specs.Sums.{sum_operation}
+use Rattle.phase_accum.specs.Products.{product_operation}
+use Rattle.phase_accum.specs.Leasts.{least_operation}
+use Rattle.phase_accum.specs.Greatests.{greatest_operation}
+use Rattle.phase_accum.specs.Anys.{any_operation}
+use Rattle.phase_history.specs.Histories.{History, greatest_used}
+use Rattle.phase_registry.specs.Rosters.{next_after}
 use Rattle.phase_core.specs.Cores.{StandsFor}
 use Rattle.phase_any.specs.declared.any_phaser.AnyPhaser.{AnyPhaser}
 use Rattle.phase_any.specs.declared.any_phaser.AnyPhaser.TheVariants as any

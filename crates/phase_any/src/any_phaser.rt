@@ -1,23 +1,23 @@
 //! A phaser under any of the five operations.
 ghost use Rattle.std.specs.Prelude.{◌≡◌, ◌≢◌, ◌<◌, ◌≤◌, ◌+◌, ℕ, [], ◌∷◌, Ok, Some, None, is_some, length, take, slice_range, IfOk, IfErr, OnOk, OnErr};
-ghost use Rattle.phase_core.specs.phase_base.Limits.{Limits};
-ghost use Rattle.phase_core.specs.phase_base.Members.{entry_of, signal_phases, wait_phases, least};
-ghost use Rattle.phase_core.specs.phase_accum.Sends.{AreSends, IsSend};
-ghost use Rattle.phase_core.specs.phase_accum.Values.{value_by};
-ghost use Rattle.phase_core.specs.phase_history.declared.event.Event.TheVariants.{Made, Registered, RegisteredNow, Dropped};
-ghost use Rattle.phase_core.specs.phase_history.Histories.{History, members_of, done_of, greatest_used};
-ghost use Rattle.phase_core.specs.phase_history.Refusals.{register_refusal, register_now_refusal, drop_refusal};
-ghost use Rattle.phase_core.specs.phase_history.Phases.{stream_of};
-ghost use Rattle.phase_core.specs.phase_history.Replies.{wait_block_reply, after_wait_block, signal_reply, wait_reply, after_signal, after_wait};
+ghost use Rattle.phase_base.specs.Limits.{Limits};
+ghost use Rattle.phase_base.specs.Members.{entry_of, signal_phases, wait_phases, least};
+ghost use Rattle.phase_accum.specs.Sends.{AreSends, IsSend};
+ghost use Rattle.phase_accum.specs.Values.{value_by};
+ghost use Rattle.phase_history.specs.declared.event.Event.TheVariants.{Made, Registered, RegisteredNow, Dropped};
+ghost use Rattle.phase_history.specs.Histories.{History, members_of, done_of, greatest_used};
+ghost use Rattle.phase_history.specs.Refusals.{register_refusal, register_now_refusal, drop_refusal};
+ghost use Rattle.phase_history.specs.Phases.{stream_of};
+ghost use Rattle.phase_history.specs.Replies.{wait_block_reply, after_wait_block, signal_reply, wait_reply, after_signal, after_wait};
 ghost use Rattle.phase_core.specs.Blocks.{one_each, written, before_too_big, after_in_range};
-ghost use Rattle.phase_core.specs.phase_registry.Rosters.{next_after};
-ghost use Rattle.phase_core.specs.phase_base.declared.limits.TheConstants.{SENDS_MAX};
+ghost use Rattle.phase_registry.specs.Rosters.{next_after};
+ghost use Rattle.phase_base.specs.declared.limits.TheConstants.{SENDS_MAX};
 
 use crate::block_sends::{signal_block, signal_values};
 use crate::parcels::Parcels;
 use crate::sends::{signal_one, signal_sends};
-use phase_core::phase_accum::{Any, Greatest, Least, Op, Outcome, Product, Single, Sum};
-use phase_core::phase_base::{Entry, Mode, Spec};
+use phase_accum::{Any, Greatest, Least, Op, Outcome, Product, Single, Sum};
+use phase_base::{Entry, Mode, Spec};
 use phase_core::{Got, GotBlock, NoTask, PhaserCore, RegisterRefusal, SignalRefusal, WaitRefusal};
 use std::alloc::{AllocError, Global};
 

@@ -1,12 +1,12 @@
 //! Signals of a block of phases, of one send each.
 ghost use Rattle.std.specs.Prelude.{◌≡◌, ◌≤◌, length, IfOk, OnErr};
-ghost use Rattle.phase_core.specs.phase_accum.Sends.{AreSends};
-ghost use Rattle.phase_core.specs.phase_history.Histories.{History};
-ghost use Rattle.phase_core.specs.phase_history.Replies.{signal_reply, after_signal};
+ghost use Rattle.phase_accum.specs.Sends.{AreSends};
+ghost use Rattle.phase_history.specs.Histories.{History};
+ghost use Rattle.phase_history.specs.Replies.{signal_reply, after_signal};
 ghost use Rattle.phase_core.specs.Blocks.{one_each};
 ghost use Rattle.phase_core.specs.Cores.{StandsFor};
 
-use phase_core::phase_accum::{Accumulate, Pending, Single};
+use phase_accum::{Accumulate, Pending, Single};
 use phase_core::{PhaserCore, SignalRefusal};
 use std::alloc::{AllocError, Global};
 

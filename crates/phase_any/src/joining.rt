@@ -1,15 +1,15 @@
 //! Tasks that join a phaser, under the number that is next.
 ghost use Rattle.std.specs.Prelude.{◌≡◌, ◌≢◌, ◌∷◌, Some, None, OnErr, IfOk, IfErr};
-ghost use Rattle.phase_core.specs.phase_base.Limits.{Limits};
-ghost use Rattle.phase_core.specs.phase_history.declared.event.Event.TheVariants.{Registered, RegisteredNow};
-ghost use Rattle.phase_core.specs.phase_history.Histories.{History, done_of};
-ghost use Rattle.phase_core.specs.phase_history.Refusals.{register_refusal, register_now_refusal};
+ghost use Rattle.phase_base.specs.Limits.{Limits};
+ghost use Rattle.phase_history.specs.declared.event.Event.TheVariants.{Registered, RegisteredNow};
+ghost use Rattle.phase_history.specs.Histories.{History, done_of};
+ghost use Rattle.phase_history.specs.Refusals.{register_refusal, register_now_refusal};
 ghost use Rattle.phase_any.specs.Phasers.{PhaserStandsFor, next_task};
 
 use crate::any_phaser::AnyPhaser;
+use phase_accum::Op;
+use phase_base::Mode;
 use phase_core::RegisterRefusal;
-use phase_core::phase_accum::Op;
-use phase_core::phase_base::Mode;
 
 impl AnyPhaser {
     /// Registers the next task, in a mode that the mode of `parent` holds and at both phases of

@@ -11,6 +11,4 @@ mod sends;
 
 pub use any_phaser::AnyPhaser;
 pub use parcels::Parcels;
-pub use phase_core;
-pub use phase_core::{phase_accum, phase_base, phase_history};
 pub use sends::held;

@@ -1,13 +1,13 @@
 //! Signals with values, as sends that a task is given to hold.
 ghost use Rattle.std.specs.Prelude.{◌≡◌, ◌≤◌, [], ◌∷◌, OnErr, length};
-ghost use Rattle.phase_core.specs.phase_base.declared.limits.TheConstants.{SENDS_MAX};
-ghost use Rattle.phase_core.specs.phase_accum.Parcels.{StandsForSends};
-ghost use Rattle.phase_core.specs.phase_accum.Sends.{AreSends, IsSend};
-ghost use Rattle.phase_core.specs.phase_history.Histories.{History};
-ghost use Rattle.phase_core.specs.phase_history.Replies.{signal_reply, after_signal};
+ghost use Rattle.phase_base.specs.declared.limits.TheConstants.{SENDS_MAX};
+ghost use Rattle.phase_accum.specs.Parcels.{StandsForSends};
+ghost use Rattle.phase_accum.specs.Sends.{AreSends, IsSend};
+ghost use Rattle.phase_history.specs.Histories.{History};
+ghost use Rattle.phase_history.specs.Replies.{signal_reply, after_signal};
 ghost use Rattle.phase_core.specs.Cores.{StandsFor};
 
-use phase_core::phase_accum::{Accumulate, Pending, Single};
+use phase_accum::{Accumulate, Pending, Single};
 use phase_core::{PhaserCore, SignalRefusal, one_send};
 
 /// Makes the pending sends of a task that holds these. It takes no memory.

@@ -2,16 +2,16 @@
 use Rattle.std.proofs.Common.{◌≡◌, ◌<◌, ◌≤◌, ◌+◌, ℕ, ℤ, zero, suc, Bool, true, false, List, [], ◌∷◌, ◌++◌, length, map, refl, sym, ap, ◌∙◌, arith}
 use Rattle.std.specs.List.{filter, range_with_len}
 use Rattle.std.proofs.lemmas.List.{map_push}
-use Rattle.graph_numbers.specs.graph_lang.graph_base.Graphs.{is_sink, task_at}
-use Rattle.graph_numbers.specs.graph_lang.graph_base.TaskLines.{IsGraph, HasEnds}
-use Rattle.graph_numbers.specs.graph_lang.graph_base.declared.line.Kind.{Kind}
-use Rattle.graph_numbers.specs.graph_lang.graph_base.declared.line.Kind.TheVariants.{Source, Fir, Split, Decimate, Join, Peer, Sink}
-use Rattle.stream_eval.specs.stream_lists.Jobs.{Job}
-use Rattle.stream_eval.specs.stream_lists.Lists.{is_sink_at, numbers_of, sink_over, sinks_of}
-use Rattle.stream_eval.specs.stream_lists.Spans.{schedule_of, span_in}
-use Rattle.stream_eval.proofs.stream_lists_lemmas.Firsts.{filter-skip, filter-take}
-use Rattle.stream_eval.proofs.stream_lists_lemmas.ListLengths.{length-first, takes_one}
-use Rattle.stream_eval.proofs.stream_lists_lemmas.ListsAbove.{first_taken}
+use Rattle.graph_base.specs.Graphs.{is_sink, task_at}
+use Rattle.graph_base.specs.TaskLines.{IsGraph, HasEnds}
+use Rattle.graph_base.specs.declared.line.Kind.{Kind}
+use Rattle.graph_base.specs.declared.line.Kind.TheVariants.{Source, Fir, Split, Decimate, Join, Peer, Sink}
+use Rattle.stream_lists.specs.Jobs.{Job}
+use Rattle.stream_lists.specs.Lists.{is_sink_at, numbers_of, sink_over, sinks_of}
+use Rattle.stream_lists.specs.Spans.{schedule_of, span_in}
+use Rattle.stream_lists.proofs.Firsts.{filter-skip, filter-take}
+use Rattle.stream_lists.proofs.ListLengths.{length-first, takes_one}
+use Rattle.stream_lists.proofs.ListsAbove.{first_taken}
 use Rattle.phase_c.specs.Evaluations.{counts_of}
 
 sink_takes_one : (kind : Kind) → is_sink kind ≡ true → takes_one kind ≡ true

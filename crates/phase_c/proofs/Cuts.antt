@@ -5,10 +5,10 @@ use Rattle.std.proofs.lemmas.List.{drop_more, map_push, take_more}
 use Rattle.std.proofs.lemmas.List.Sums.{sum_by-drop_more}
 use Rattle.std.specs.Global.{Global}
 use Rattle.std.specs.List.{sum}
-use Rattle.stream_eval.specs.stream_filters.Range.{lowest}
-use Rattle.graph_numbers.specs.graph_lang.phase_accum.Sends.{AreSends, IsSend}
-use Rattle.stream_eval.specs.stream_lists.JobFields.{items_of}
-use Rattle.stream_eval.proofs.stream_lists_lemmas.phase_accum_lemmas.Parts.{AreSends-append}
+use Rattle.stream_filters.specs.Range.{lowest}
+use Rattle.phase_accum.specs.Sends.{AreSends, IsSend}
+use Rattle.stream_lists.specs.JobFields.{items_of}
+use Rattle.phase_accum.proofs.Parts.{AreSends-append}
 use Rattle.phase_c.specs.Lent.{cut}
 
 -- the one with these bits is the lowest

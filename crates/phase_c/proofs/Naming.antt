@@ -2,7 +2,7 @@
 use Rattle.std.proofs.Common.{◌≡◌, ℕ, ◌+◌, ◌<◌, List, [], ◌∷◌, ◌++◌, length, take, get_or, sym, ap, ◌∙◌, arith}
 use Rattle.std.specs.List.{flat_map, range_with_len}
 use Rattle.std.proofs.lemmas.List.{flat_map_more, take_more}
-use Rattle.stream_eval.proofs.stream_lists_lemmas.Firsts.{range_more}
+use Rattle.stream_lists.proofs.Firsts.{range_more}
 
 -- one more name with its line end
 pub names-more : (line : ℕ → List ℕ) (before items numbers : List ℕ) (k : ℕ) → k < length numbers

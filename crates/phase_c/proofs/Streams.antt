@@ -6,16 +6,16 @@ use Rattle.std.proofs.lemmas.Bool.{le-leb, ltb-false, ltb-true}
 use Rattle.std.proofs.lemmas.Grind.{drop_more_same}
 use Rattle.std.proofs.lemmas.List.{drop-set-lt, take_more, take_more_set, reverse-append, length-reverse, get_or_append_left, get_or-append_right, get_or-drop, get_or-reverse, length-drop, length-take-le}
 use Rattle.std.proofs.lemmas.List.FromFn.{map-range_with_len_more}
-use Rattle.graph_numbers.specs.graph_lang.phase_accum.Sends.{AreSends, IsSend, value_max}
-use Rattle.stream_eval.specs.stream_filters.Filter.{FirState, StandsFor, back, output_after, reach, shifted_down}
-use Rattle.stream_eval.specs.stream_filters.declared.form.Form.{Form}
-use Rattle.stream_eval.specs.stream_filters.Range.{ranged}
-use Rattle.stream_eval.specs.stream_filters.declared.fault.TooBigValue.{TooBigValue}
-use Rattle.stream_eval.proofs.stream_lists_lemmas.Growing.{map-same}
-use Rattle.stream_eval.proofs.stream_lists_lemmas.InRange.{IsSend-in_range}
-use Rattle.stream_eval.proofs.stream_lists_lemmas.stream_filters_lemmas.Weighted.{weighted-same}
-use Rattle.stream_eval.proofs.stream_lists_lemmas.phase_accum_lemmas.Parts.{AreSends-append}
-use Rattle.stream_eval.proofs.stream_lists_lemmas.stream_filters_lemmas.Made.{ranged-ok, ranged-err}
+use Rattle.phase_accum.specs.Sends.{AreSends, IsSend, value_max}
+use Rattle.stream_filters.specs.Filter.{FirState, StandsFor, back, output_after, reach, shifted_down}
+use Rattle.stream_filters.specs.declared.form.Form.{Form}
+use Rattle.stream_filters.specs.Range.{ranged}
+use Rattle.stream_filters.specs.declared.fault.TooBigValue.{TooBigValue}
+use Rattle.stream_lists.proofs.Growing.{map-same}
+use Rattle.stream_lists.proofs.InRange.{IsSend-in_range}
+use Rattle.stream_filters.proofs.Weighted.{weighted-same}
+use Rattle.phase_accum.proofs.Parts.{AreSends-append}
+use Rattle.stream_filters.proofs.Made.{ranged-ok, ranged-err}
 use Rattle.phase_c.specs.Filtered.{AreOfFilter, Filters, FiltersAll, FiltersTo, ShowsLast, first_outputs, output_behind}
 
 -- ---- one sample after the other

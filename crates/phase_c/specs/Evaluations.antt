@@ -1,9 +1,9 @@
 -- What an evaluation writes.
 use Rattle.std.specs.Prelude.{◌≡◌, ℕ, ℤ, pos, negsuc, List, ◌++◌, length, map, drop, Option, Some, None}
 use Rattle.std.specs.List.{flat_map}
-use Rattle.stream_eval.specs.stream_lists.Jobs.{Job}
-use Rattle.stream_eval.specs.stream_lists.Lists.{lines_of, sinks_of, start_in}
-use Rattle.stream_eval.specs.stream_lists.Ranges.{Fits}
+use Rattle.stream_lists.specs.Jobs.{Job}
+use Rattle.stream_lists.specs.Lists.{lines_of, sinks_of, start_in}
+use Rattle.stream_lists.specs.Ranges.{Fits}
 
 -- the values of each sink, in the order of the lines
 abbrev pub values_of_sinks : Job → List (List ℤ)

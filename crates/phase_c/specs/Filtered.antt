@@ -1,9 +1,9 @@
 -- A block of a stream of samples through a filter, and the samples before it that it weighs too.
 use Rattle.std.specs.Prelude.{◌≡◌, ◌<◌, ◌≤◌, ◌+◌, ℕ, ℤ, negsuc, List, ◌++◌, length, map, take, drop}
 use Rattle.std.specs.List.{range_with_len}
-use Rattle.graph_numbers.specs.graph_lang.phase_accum.Sends.{AreSends, IsSend}
-use Rattle.stream_eval.specs.stream_filters.Filter.{AreTaps, back, output_after, reach}
-use Rattle.stream_eval.specs.stream_filters.declared.form.Form.{Form}
+use Rattle.phase_accum.specs.Sends.{AreSends, IsSend}
+use Rattle.stream_filters.specs.Filter.{AreTaps, back, output_after, reach}
+use Rattle.stream_filters.specs.declared.form.Form.{Form}
 use Rattle.phase_c.specs.declared.filter.FilterRefusal.{FilterRefusal}
 use Rattle.phase_c.specs.declared.filter.FilterRefusal.TheVariants as refusal
 

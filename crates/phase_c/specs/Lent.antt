@@ -1,13 +1,13 @@
 -- What a caller lends for an evaluation, as lists and lengths.
 use Rattle.std.specs.Prelude.{◌≡◌, ◌<◌, ◌≤◌, ℕ, ℤ, pos, List, [], ◌∷◌, length, take, drop, get_or, Ok}
 use Rattle.std.specs.List.{All, filter, range_with_len, sum}
-use Rattle.graph_numbers.specs.graph_lang.Reads.{ReadsText}
-use Rattle.graph_numbers.specs.graph_lang.graph_base.Graphs.{Graph, is_sink, sources_of, task_at}
-use Rattle.graph_numbers.specs.graph_lang.graph_text.Texts.{lines_of as text_lines}
-use Rattle.graph_numbers.specs.graph_lang.phase_accum.Sends.{AreSends}
-use Rattle.stream_eval.specs.stream_filters.Range.{lowest}
-use Rattle.stream_eval.specs.stream_lists.Jobs.{Job}
-use Rattle.stream_eval.specs.stream_lists.declared.job.TheConstants.{SAMPLES_MAX}
+use Rattle.graph_lang.specs.Reads.{ReadsText}
+use Rattle.graph_base.specs.Graphs.{Graph, is_sink, sources_of, task_at}
+use Rattle.graph_text.specs.Texts.{lines_of as text_lines}
+use Rattle.phase_accum.specs.Sends.{AreSends}
+use Rattle.stream_filters.specs.Range.{lowest}
+use Rattle.stream_lists.specs.Jobs.{Job}
+use Rattle.stream_lists.specs.declared.job.TheConstants.{SAMPLES_MAX}
 
 -- the numbers, cut into lists that are as long as the counts say
 abbrev pub cut : List ℕ → List ℤ → List (List ℤ)

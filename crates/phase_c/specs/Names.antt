@@ -1,11 +1,11 @@
 -- The names of a graph's sources and sinks, or of all its phasers and tasks, as a text.
 use Rattle.std.specs.Prelude.{◌≡◌, ◌<◌, ℕ, List, [], ◌∷◌, ◌++◌, length, drop, Ok, Err}
 use Rattle.std.specs.List.{filter, flat_map, range_with_len}
-use Rattle.graph_numbers.specs.graph_lang.Reads.{ReadsText}
-use Rattle.graph_numbers.specs.graph_lang.graph_base.Graphs.{Graph, is_source, name_at, task_at}
-use Rattle.graph_numbers.specs.graph_lang.graph_base.declared.place.Place.{Place}
-use Rattle.graph_numbers.specs.graph_lang.graph_base.declared.place.Place.TheVariants as place
-use Rattle.graph_numbers.specs.graph_lang.graph_text.Texts.{lines_of as text_lines}
+use Rattle.graph_lang.specs.Reads.{ReadsText}
+use Rattle.graph_base.specs.Graphs.{Graph, is_source, name_at, task_at}
+use Rattle.graph_base.specs.declared.place.Place.{Place}
+use Rattle.graph_base.specs.declared.place.Place.TheVariants as place
+use Rattle.graph_text.specs.Texts.{lines_of as text_lines}
 use Rattle.phase_c.specs.Lent.{sinks_in}
 use Rattle.phase_c.specs.declared.refusal.Refusal.{Refusal}
 use Rattle.phase_c.specs.declared.refusal.Refusal.TheVariants as refusal

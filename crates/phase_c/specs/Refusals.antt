@@ -1,16 +1,16 @@
 -- Why a call is refused.
 use Rattle.std.specs.Prelude.{◌≡◌, ◌<◌, ◌≤◌, ◌⊎◌, ℕ, ℤ, List, [], length, Ok, Err, Some, None}
 use Rattle.std.specs.List.{sum}
-use Rattle.graph_numbers.specs.graph_lang.Reads.{ReadsText}
-use Rattle.graph_numbers.specs.graph_lang.graph_base.Graphs.{Graph}
-use Rattle.graph_numbers.specs.graph_lang.graph_base.declared.place.Place.{Place}
-use Rattle.graph_numbers.specs.graph_lang.graph_text.Texts.{lines_of as text_lines}
-use Rattle.graph_numbers.specs.graph_lang.declared.fault.FaultKind.TheVariants.{AnyMeets}
-use Rattle.graph_numbers.specs.graph_lang.declared.fault.GraphRefusal.{GraphRefusal}
-use Rattle.graph_numbers.specs.graph_lang.declared.fault.GraphRefusal.TheVariants as graph
-use Rattle.stream_eval.specs.stream_lists.Jobs.{Job}
-use Rattle.stream_eval.specs.stream_lists.Meetings.{meeting_line}
-use Rattle.stream_eval.specs.stream_lists.Ranges.{first_too_big}
+use Rattle.graph_lang.specs.Reads.{ReadsText}
+use Rattle.graph_base.specs.Graphs.{Graph}
+use Rattle.graph_base.specs.declared.place.Place.{Place}
+use Rattle.graph_text.specs.Texts.{lines_of as text_lines}
+use Rattle.graph_lang.specs.declared.fault.FaultKind.TheVariants.{AnyMeets}
+use Rattle.graph_lang.specs.declared.fault.GraphRefusal.{GraphRefusal}
+use Rattle.graph_lang.specs.declared.fault.GraphRefusal.TheVariants as graph
+use Rattle.stream_lists.specs.Jobs.{Job}
+use Rattle.stream_lists.specs.Meetings.{meeting_line}
+use Rattle.stream_lists.specs.Ranges.{first_too_big}
 use Rattle.phase_c.specs.Lent.{HasLengths, IsFirstNoSample, IsJobLent}
 use Rattle.phase_c.specs.Evaluations.{WritesValues, TellsSinks, counts_of}
 use Rattle.phase_c.specs.declared.refusal.Refusal.{Refusal}

@@ -1,8 +1,8 @@
 -- What a caller is told of a call, in numbers.
 use Rattle.std.specs.Prelude.{◌≡◌, ◌+◌, ◌*◌, ℕ, ℤ, negsuc, List, length, Ok}
-use Rattle.graph_numbers.specs.graph_lang.Reads.{ReadsText}
-use Rattle.graph_numbers.specs.graph_lang.graph_base.Graphs.{Graph, sources_of}
-use Rattle.graph_numbers.specs.graph_lang.graph_text.Texts.{lines_of as text_lines}
+use Rattle.graph_lang.specs.Reads.{ReadsText}
+use Rattle.graph_base.specs.Graphs.{Graph, sources_of}
+use Rattle.graph_text.specs.Texts.{lines_of as text_lines}
 use Rattle.graph_numbers.specs.Numbers.{graph_fault, no_fault, too_big_fault}
 use Rattle.graph_numbers.specs.declared.fault.PhaseFault.{PhaseFault}
 use Rattle.graph_numbers.specs.declared.fault.PhaseCounts.{PhaseCounts}

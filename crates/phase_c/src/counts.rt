@@ -3,8 +3,8 @@ ghost use Rattle.std.specs.Prelude.{◌≡◌, ◌↔◌, ◌<◌, ◌≤◌, �
 ghost use Rattle.std.specs.List.{All, sum};
 ghost use Rattle.phase_c.specs.Lent.{AreCounts};
 
-use graph_numbers::graph_lang::Graph;
-use stream_eval::stream_lists::SAMPLES_MAX;
+use graph_lang::Graph;
+use stream_lists::SAMPLES_MAX;
 
 /// What is left of so much room where so many of each stand there, where it is enough.
 fn left_of(counts: &[usize], room: usize) -> Option<usize>

@@ -1,7 +1,7 @@
 //! A graph's text and the samples of its sources, evaluated.
 ghost use Rattle.std.specs.Prelude.{◌≡◌, ◌↔◌, [], length, IsTrue, IfOk, IfErr, OnOk, OnErr, None};
-ghost use Rattle.stream_eval.specs.stream_lists.Lists.{sinks_of};
-ghost use Rattle.stream_eval.specs.stream_lists.Meetings.{meeting_line};
+ghost use Rattle.stream_lists.specs.Lists.{sinks_of};
+ghost use Rattle.stream_lists.specs.Meetings.{meeting_line};
 ghost use Rattle.phase_c.specs.Evaluations.{WritesValues};
 ghost use Rattle.phase_c.specs.Lent.{HasLengths, IsGraphLent, IsJobLent, sinks_in};
 ghost use Rattle.phase_c.specs.Refusals.{IsDone, RefusesEval, RefusesJob, RefusesLent};
@@ -11,10 +11,10 @@ use crate::refusal::Refusal;
 use crate::samples::{first_no_sample, lists_of};
 use crate::sinks::{sinks_of, tell_sinks};
 use crate::written::write_values;
-use graph_numbers::graph_lang::{FaultKind, Graph, GraphFault, read_graph};
+use graph_lang::{FaultKind, Graph, GraphFault, read_graph};
 use std::alloc::Global;
-use stream_eval::stream_lists::{Job, JobRefusal};
 use stream_eval::{EvalFault, eval};
+use stream_lists::{Job, JobRefusal};
 
 /// Whether what is lent has the lengths that a graph with so many sinks asks for.
 fn have_lengths(

@@ -1,6 +1,6 @@
 //! The exports, which `phase.h` declares. None requires anything.
 ghost use Rattle.std.specs.Prelude.{◌≡◌, ◌≢◌, pos, length, IfOk, IfErr};
-ghost use Rattle.stream_eval.specs.stream_filters.Filter.{by_shift};
+ghost use Rattle.stream_filters.specs.Filter.{by_shift};
 ghost use Rattle.phase_c.specs.Filtered.{FilterStops, FiltersAll};
 ghost use Rattle.phase_c.specs.Names.{WritesNames, all_names_text, names_text};
 ghost use Rattle.phase_c.specs.Refusals.{IsDone, RefusesText};
@@ -13,7 +13,7 @@ use crate::names::{write_all_names, write_names};
 use crate::refusal::Refusal;
 use crate::sinks::sinks_of;
 use crate::told::{VERSION, fault_of, status_of};
-use graph_numbers::graph_lang::read_graph;
+use graph_lang::read_graph;
 use graph_numbers::{PhaseCounts, PhaseFault};
 use std::alloc::Global;
 

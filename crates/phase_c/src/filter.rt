@@ -1,11 +1,11 @@
 //! A filter over a block of samples, which goes on where the block before it ended.
 ghost use Rattle.std.specs.Prelude.{◌≡◌, ◌≤◌, ◌<◌, ◌+◌, ◌++◌, ℤ, List, length, take, drop, OnOk, OnErr, IfOk, IfErr};
-ghost use Rattle.graph_numbers.specs.graph_lang.phase_accum.Sends.{AreSends, IsSend};
-ghost use Rattle.stream_eval.specs.stream_filters.Filter.{StandsFor, by_shift};
+ghost use Rattle.phase_accum.specs.Sends.{AreSends, IsSend};
+ghost use Rattle.stream_filters.specs.Filter.{StandsFor, by_shift};
 ghost use Rattle.phase_c.specs.Filtered.{AreOfFilter, FiltersAll, RefusesBlock, filter_status_of, first_outputs, output_behind};
 
 use std::alloc::Global;
-use stream_eval::stream_lists::stream_filters::{Fir, FirFault, Form};
+use stream_filters::{Fir, FirFault, Form};
 
 /// Why a block was not filtered, or not to its end.
 #[derive(Clone, Copy, Debug, PartialEq, Eq)]

@@ -1,12 +1,12 @@
 //! A filter over a block of samples, whose values take the places of the samples.
 ghost use Rattle.std.specs.Prelude.{◌≡◌, ◌≤◌, ◌<◌, ℤ, List, length, take, drop, OnOk, OnErr, IfErr};
-ghost use Rattle.graph_numbers.specs.graph_lang.phase_accum.Sends.{AreSends, IsSend};
-ghost use Rattle.stream_eval.specs.stream_filters.Filter.{StandsFor, by_shift};
+ghost use Rattle.phase_accum.specs.Sends.{AreSends, IsSend};
+ghost use Rattle.stream_filters.specs.Filter.{StandsFor, by_shift};
 ghost use Rattle.phase_c.specs.Filtered.{FiltersAll, RefusesBlock, first_outputs, output_behind};
 
 use crate::filter::{FilterRefusal, filter_behind, keep};
 use std::alloc::Global;
-use stream_eval::stream_filters::{Fir, Form, TAPS_MAX};
+use stream_filters::{Fir, Form, TAPS_MAX};
 
 /// Writes what a filter answers at each sample of a block over the sample, up to the first value
 /// that is out of range, and returns how many it wrote.

@@ -1,14 +1,14 @@
 //! The names of a graph's sources and sinks, or of all its phasers and tasks, as a text.
 ghost use Rattle.std.specs.Prelude.{◌≡◌, ◌<◌, ◌++◌, length, drop, IfOk, IfErr, OnOk, OnErr};
 ghost use Rattle.std.specs.List.{All, range_with_len};
-ghost use Rattle.graph_numbers.specs.graph_lang.graph_base.Graphs.{IsPlace};
+ghost use Rattle.graph_base.specs.Graphs.{IsPlace};
 ghost use Rattle.phase_c.specs.Names.{HasNames, RefusesNames, WritesNames, all_names_text, name_line, names_text, phasers_text, sources_in, tasks_text};
 ghost use Rattle.phase_c.specs.declared.refusal.Refusal.TheVariants.{Room};
 ghost use Rattle.phase_c.specs.Refusals.{RefusesText};
 
 use crate::refusal::Refusal;
 use crate::sinks::sinks_of;
-use graph_numbers::graph_lang::{Graph, Place, read_graph};
+use graph_lang::{Graph, Place, read_graph};
 use std::alloc::{AllocError, Global};
 
 /// The numbers of the sources among the tasks, in the order of the lines.

@@ -1,7 +1,7 @@
 //! Why a call was refused.
 ghost use Rattle.std.specs.Prelude.{◌≡◌};
 
-use graph_numbers::graph_lang::{GraphFault, GraphRefusal, Place};
+use graph_lang::{GraphFault, GraphRefusal, Place};
 use std::alloc::AllocError;
 
 /// Why a call was refused.

@@ -1,13 +1,13 @@
 //! Samples that a caller lends, as the lists of a graph's sources.
 ghost use Rattle.std.specs.Prelude.{◌≡◌, ◌≤◌, length, IfOk, IfSome, None};
 ghost use Rattle.std.specs.List.{All, sum};
-ghost use Rattle.stream_eval.specs.stream_lists.phase_accum.Sends.{AreSends};
-ghost use Rattle.stream_eval.specs.stream_lists.JobFields.{items_of};
+ghost use Rattle.phase_accum.specs.Sends.{AreSends};
+ghost use Rattle.stream_lists.specs.JobFields.{items_of};
 ghost use Rattle.phase_c.specs.Lent.{IsFirstNoSample, cut};
 
-use graph_numbers::graph_lang::phase_accum::NO_VALUE;
+use phase_accum::NO_VALUE;
 use std::alloc::{AllocError, Global};
-use stream_eval::stream_lists::SAMPLES_MAX;
+use stream_lists::SAMPLES_MAX;
 
 /// The place of the first number that is no sample.
 pub(crate) fn first_no_sample(samples: &[i64]) -> Option<usize>

@@ -1,15 +1,15 @@
 //! The sinks of a graph, and what is told of them.
 ghost use Rattle.std.specs.Prelude.{◌≡◌, ◌<◌, [], length, map, true, IfOk, IfSome};
 ghost use Rattle.std.specs.List.{All};
-ghost use Rattle.graph_numbers.specs.graph_lang.graph_base.TaskLines.{IsGraph};
-ghost use Rattle.stream_eval.specs.stream_lists.Spans.{span_in};
-ghost use Rattle.stream_eval.specs.stream_lists.Lists.{sinks_of, start_in};
+ghost use Rattle.graph_base.specs.TaskLines.{IsGraph};
+ghost use Rattle.stream_lists.specs.Spans.{span_in};
+ghost use Rattle.stream_lists.specs.Lists.{sinks_of, start_in};
 ghost use Rattle.phase_c.specs.Lent.{sinks_in};
 ghost use Rattle.phase_c.specs.Evaluations.{TellsSinks, start_number};
 
-use graph_numbers::graph_lang::Graph;
+use graph_lang::Graph;
 use std::alloc::{AllocError, Global};
-use stream_eval::stream_lists::Job;
+use stream_lists::Job;
 
 /// The numbers of the sinks among the tasks, in the order of the lines.
 pub(crate) fn sinks_of(alloc: Global, graph: &Graph) -> Result<Vec<usize>, AllocError>

@@ -3,11 +3,11 @@
 //! phasers.
 #![tactic(auto)]
 
-use phase_commands::graph_commands::TellingFiles;
-use phase_commands::phase_replay::Watched;
-use phase_commands::phase_replay::watched_io::{Streams, own_words, refuse_words};
+use graph_commands::TellingFiles;
 use phase_commands::{hold_closed_streams, run_cli};
+use phase_replay::Watched;
 use std::process::ExitCode;
+use watched_io::{Streams, own_words, refuse_words};
 
 fn main(rt: HostRuntime) -> ExitCode {
     hold_closed_streams(&rt);

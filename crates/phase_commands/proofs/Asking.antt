@@ -5,14 +5,13 @@ use Rattle.phase_commands.specs.Leaving.{LeavesBy}
 use Rattle.phase_words.proofs.Answering.{may-end-taken, untaken-not-stalled}
 use Rattle.phase_words.proofs.NoCalls.{taken-or-not}
 use Rattle.phase_words.specs.Answers.{MayEnd}
-use Rattle.phase_words.specs.CommandLine.{AreTaken, Asked, Asks, AskFile, asked_in, asked_of}
-use Rattle.phase_words.specs.CommandLine.{check, columns, draw, eval, file_asked, kinds_of, replay, replay_file}
+use Rattle.phase_words.specs.CommandLine.{AreTaken, Asked, Asks, AskFile, asked_in, asked_of, check, columns, draw, eval, file_asked, kinds_of, replay, replay_file}
 use Rattle.phase_words.specs.declared.call.Call.{Call}
 use Rattle.phase_words.specs.declared.call.Strict.TheVariants as strictly
 use Rattle.phase_words.specs.declared.call.Call.TheVariants as call
-use Rattle.phase_replay.specs.watched_io.declared.status.Status.{Status}
-use Rattle.phase_replay.specs.watched_io.declared.status.Status.TheVariants.{Done, Failed, GraphRefused, Refused, Stalled, TooBig}
-use Rattle.phase_replay.specs.watched_io.declared.watched.Watched.{Watched}
+use Rattle.watched_io.specs.declared.status.Status.{Status}
+use Rattle.watched_io.specs.declared.status.Status.TheVariants.{Done, Failed, GraphRefused, Refused, Stalled, TooBig}
+use Rattle.watched_io.specs.declared.watched.Watched.{Watched}
 
 -- ---- what words ask for
 

@@ -1,16 +1,16 @@
 -- Where nothing was read and nothing was written, for memory ran out over the words.
 use Rattle.std.proofs.Common.{◌≡◌, Bool, List, [], ℕ, Option, Some, None, refl}
 use Rattle.std.proofs.KnownBytes.{Appends-nil}
-use Rattle.phase_replay.specs.watched_io.States.{ReaderState, WriterState}
-use Rattle.phase_replay.proofs.watched_io_lemmas.Giving.{reads_nothing}
+use Rattle.watched_io.specs.States.{ReaderState, WriterState}
+use Rattle.watched_io.proofs.Giving.{reads_nothing}
 use Rattle.phase_replay.specs.Replay.{RepliesPrefix}
 use Rattle.phase_replay.specs.Replies.{replies_of}
-use Rattle.phase_replay.specs.watched_io.declared.fault.IoFault.TheVariants.{OutOfMemory}
-use Rattle.phase_replay.specs.watched_io.declared.status.Status.{Status}
-use Rattle.phase_replay.specs.watched_io.declared.status.Status.TheVariants.{Failed}
+use Rattle.watched_io.specs.declared.fault.IoFault.TheVariants.{OutOfMemory}
+use Rattle.watched_io.specs.declared.status.Status.{Status}
+use Rattle.watched_io.specs.declared.status.Status.TheVariants.{Failed}
 use Rattle.phase_replay.specs.declared.whole.TheConstants.{SCRIPT_MAX}
 use Rattle.phase_replay.proofs.Reading.{replays_nothing}
-use Rattle.phase_replay.specs.watched_io.Statuses.{Reports}
+use Rattle.watched_io.specs.Statuses.{Reports}
 use Rattle.phase_replay.specs.Replays.{ReplayEnds}
 
 -- nothing is a prefix of the replies

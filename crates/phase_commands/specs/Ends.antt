@@ -5,12 +5,11 @@ use Rattle.graph_commands.specs.FileJobs.{Known}
 use Rattle.graph_commands.specs.Folders.{known_by}
 use Rattle.phase_replay.specs.FileReplays.{FileReplayEnds, StrictFileReplayEnds}
 use Rattle.phase_replay.specs.Replays.{ReplayEnds}
-use Rattle.phase_replay.specs.watched_io.States.{ReaderState, WriterState, writer_state}
-use Rattle.phase_replay.specs.watched_io.declared.status.Status.{Status}
-use Rattle.phase_replay.specs.watched_io.declared.status.Status.TheVariants.{Done, Failed, GraphRefused, TooBig}
-use Rattle.phase_replay.specs.watched_io.declared.watched.Watched.{Watched}
-use Rattle.phase_words.specs.CommandLine.{Asked, Asks, AskFile, AskReplay}
-use Rattle.phase_words.specs.CommandLine.{check, columns, draw, eval, replay, replay_file}
+use Rattle.watched_io.specs.States.{ReaderState, WriterState, writer_state}
+use Rattle.watched_io.specs.declared.status.Status.{Status}
+use Rattle.watched_io.specs.declared.status.Status.TheVariants.{Done, Failed, GraphRefused, TooBig}
+use Rattle.watched_io.specs.declared.watched.Watched.{Watched}
+use Rattle.phase_words.specs.CommandLine.{Asked, Asks, AskFile, AskReplay, check, columns, draw, eval, replay, replay_file}
 use Rattle.phase_words.specs.declared.call.Strict.TheVariants.{No, Yes}
 
 -- the statuses of what words that are taken ask for

@@ -2,7 +2,7 @@
 use Rattle.std.specs.Prelude.{◌≡◌}
 use Rattle.phase_words.specs.declared.call.Call.{Call}
 use Rattle.phase_words.specs.declared.call.Call.TheVariants as call
-use Rattle.phase_replay.specs.watched_io.declared.watched.Watched.{Watched}
+use Rattle.watched_io.specs.declared.watched.Watched.{Watched}
 
 -- what a call leaves alone: the files by a replay with none, and the input by what goes by a file
 abbrev pub LeavesBy : {R F : Type 0} → Call → Watched R → Watched R → F → F → Type 0

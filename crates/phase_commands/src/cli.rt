@@ -5,16 +5,15 @@ ghost use Rattle.graph_commands.specs.Folders.{known_by};
 ghost use Rattle.phase_commands.specs.Ends.{EndsAs, LeavesAlone, MayEndAs, MayEndAsked};
 ghost use Rattle.phase_commands.specs.Leaving.{LeavesBy};
 ghost use Rattle.phase_words.specs.Answers.{AnswerEnds, MayEnd, Wrote, WroteIfBegun};
-ghost use Rattle.phase_words.specs.CommandLine.{AreTaken, AskReplay, Asked, Asks, asked_of, kinds_of};
-ghost use Rattle.phase_words.specs.CommandLine.{check, columns, draw, eval, replay, replay_file, texts};
-ghost use Rattle.phase_replay.specs.watched_io.States.{ReaderState, reader_state};
+ghost use Rattle.phase_words.specs.CommandLine.{AreTaken, AskReplay, Asked, Asks, asked_of, kinds_of, check, columns, draw, eval, replay, replay_file, texts};
+ghost use Rattle.watched_io.specs.States.{ReaderState, reader_state};
 
 use graph_commands::{LooksBeside, Refuses, check, draw, end, eval, eval_columns, look_by};
-use phase_replay::watched_io::{Explain, Files, Status, Streams};
 use phase_replay::{Watched, replay_and_report, replay_file_and_report, replay_file_strictly};
 use phase_words::{Call, Strict, answer, read_words};
 use std::alloc::Global;
 use std::io::{Read, Write};
+use watched_io::{Explain, Files, Status, Streams};
 
 /// Runs the program on its words, without its own name, and answers its status: `Done` where what
 /// was asked for is done, or help or the version was shown, `GraphRefused` where a graph or its

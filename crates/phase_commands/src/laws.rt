@@ -4,7 +4,7 @@ ghost use Rattle.phase_commands.specs.Ends.{MayEndAsked};
 ghost use Rattle.phase_words.specs.Answers.{MayEnd};
 ghost use Rattle.phase_words.specs.CommandLine.{AreTaken, kinds_of};
 
-use phase_replay::watched_io::Status;
+use watched_io::Status;
 
 /// Whatever the words ask for, nothing stalls, and words that are taken are not refused.
 pub fn statuses()

@@ -11,7 +11,4 @@ mod held;
 pub mod laws;
 
 pub use cli::run_cli;
-pub use graph_commands;
 pub use held::hold_closed_streams;
-pub use phase_replay;
-pub use phase_words;

@@ -1,14 +1,14 @@
 -- What is known of a block of signals that meets no refusal, and what it leaves.
 use Rattle.std.proofs.Common.{◌≡◌, ℕ, ℤ, ◌+◌, ◌≤◌, List, ◌∷◌, [], Option, Some, None, Ok, max, length, refl, sym, ◌∙◌, ap, arith, inl, inr}
-use Rattle.phase_registry.specs.phase_base.declared.entry.Entry.{Entry}
-use Rattle.phase_registry.specs.phase_base.declared.limits.TheConstants.{MEMBERS_MAX, PHASES_MAX}
-use Rattle.phase_registry.specs.phase_base.Members.{entry_of, wait_phases, least, changed_at, signalled}
-use Rattle.phase_registry.specs.phase_base.Lists.{first_row}
+use Rattle.phase_base.specs.declared.entry.Entry.{Entry}
+use Rattle.phase_base.specs.declared.limits.TheConstants.{MEMBERS_MAX, PHASES_MAX}
+use Rattle.phase_base.specs.Members.{entry_of, wait_phases, least, changed_at, signalled}
+use Rattle.phase_base.specs.Lists.{first_row}
 use Rattle.phase_registry.specs.Rosters.{Roster, roster}
-use Rattle.phase_history.specs.phase_accum.declared.single.Single.{Single}
-use Rattle.phase_history.specs.phase_accum.Singles.{CanBeNamed}
-use Rattle.phase_history.specs.phase_accum.Operations.{Operation, AccumulateLaws}
-use Rattle.phase_history.specs.phase_accum.Parcels.{Parcel}
+use Rattle.phase_accum.specs.declared.single.Single.{Single}
+use Rattle.phase_accum.specs.Singles.{CanBeNamed}
+use Rattle.phase_accum.specs.Operations.{Operation, AccumulateLaws}
+use Rattle.phase_accum.specs.Parcels.{Parcel}
 use Rattle.phase_history.specs.declared.event.Event.TheVariants.{Signalled}
 use Rattle.phase_history.specs.Histories.{History, signal_phase}
 use Rattle.phase_history.specs.Refusals.{signal_rows_before, signal_refusal}

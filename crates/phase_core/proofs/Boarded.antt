@@ -2,11 +2,11 @@
 use Rattle.std.proofs.Common.{◌≡◌, ℕ, ◌+◌, ◌<◌, ◌≤◌, ◌⊎◌, true, false, ltb, List, [], ◌∷◌, Option, Some, length, unwrap_or, refl, sym, ◌∙◌, ap, arith, ⊎_elim, inl, inr}
 use Rattle.std.specs.Prelude.{is_some}
 use Rattle.std.proofs.lemmas.Bool.{cases_lt, leb-false, lt-ltb}
-use Rattle.phase_registry.specs.phase_base.Modes.{mode_signals, mode_waits}
-use Rattle.phase_registry.specs.phase_base.declared.entry.Entry.{Entry}
-use Rattle.phase_registry.specs.phase_base.declared.limits.TheConstants.{MEMBERS_MAX}
-use Rattle.phase_registry.specs.phase_base.Members.{Members, entry_of, signal_phases, wait_phases, least}
-use Rattle.phase_history.specs.phase_accum.Operations.{Operation}
+use Rattle.phase_base.specs.Modes.{mode_signals, mode_waits}
+use Rattle.phase_base.specs.declared.entry.Entry.{Entry}
+use Rattle.phase_base.specs.declared.limits.TheConstants.{MEMBERS_MAX}
+use Rattle.phase_base.specs.Members.{Members, entry_of, signal_phases, wait_phases, least}
+use Rattle.phase_accum.specs.Operations.{Operation}
 use Rattle.phase_history.specs.Refusals.{is_ahead}
 use Rattle.phase_registry.specs.Rosters.{Roster}
 use Rattle.phase_ring.specs.declared.board.Board.{Board}

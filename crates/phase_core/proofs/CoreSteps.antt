@@ -4,14 +4,14 @@ use Rattle.std.proofs.Common.{◌≡◌, ℕ, ◌+◌, ◌≤◌, true, false, �
 use Rattle.std.specs.Option.{option_and_then}
 use Rattle.std.proofs.lemmas.Option.{same_Some}
 use Rattle.std.proofs.lemmas.Bool.{ne_eqb, le-ltb}
-use Rattle.phase_registry.specs.phase_base.Limits.{Limits}
-use Rattle.phase_registry.specs.phase_base.Modes.{mode_waits}
-use Rattle.phase_registry.specs.phase_base.declared.entry.Entry.{Entry}
-use Rattle.phase_registry.specs.phase_base.declared.member.Member.{Member}
-use Rattle.phase_history.specs.phase_accum.Values.{applied}
-use Rattle.phase_history.specs.phase_accum.Operations.{Operation, AccumulateLaws}
+use Rattle.phase_base.specs.Limits.{Limits}
+use Rattle.phase_base.specs.Modes.{mode_waits}
+use Rattle.phase_base.specs.declared.entry.Entry.{Entry}
+use Rattle.phase_base.specs.declared.member.Member.{Member}
+use Rattle.phase_accum.specs.Values.{applied}
+use Rattle.phase_accum.specs.Operations.{Operation, AccumulateLaws}
 use Rattle.phase_history.specs.declared.event.Event.TheVariants.{Made, Registered, RegisteredNow, Signalled, Waited, Dropped}
-use Rattle.phase_registry.specs.phase_base.Members.{Members, entry_of, changed_at, wait_phases, least, waited}
+use Rattle.phase_base.specs.Members.{Members, entry_of, changed_at, wait_phases, least, waited}
 use Rattle.phase_history.specs.Histories.{History, members_of, top_of, done_of, signal_phase, wait_phase}
 use Rattle.phase_history.specs.Phases.{value_of_phase, single_of_phase, sends_of_phase, named_in_phase, list_in_phase, is_among}
 use Rattle.phase_history.specs.Refusals.{wait_refusal}

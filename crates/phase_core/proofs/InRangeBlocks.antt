@@ -6,9 +6,9 @@ use Rattle.std.proofs.lemmas.List.{drop_more, length-take, length-map, take-appe
 use Rattle.std.proofs.lemmas.List.FromFn.{length-map-range_with_len, length-range_with_len, take-map-range_with_len}
 use Rattle.std.proofs.lemmas.List.Folds.{length-prefix_len}
 use Rattle.std.proofs.lemmas.List.Sums.{prefix_len-le-length, take_while-cons}
-use Rattle.phase_registry.specs.phase_base.Limits.{Limits}
-use Rattle.phase_history.specs.phase_accum.declared.outcome.Outcome.{Outcome}
-use Rattle.phase_history.specs.phase_accum.declared.outcome.Outcome.TheVariants.{Value, Empty, TooBig}
+use Rattle.phase_base.specs.Limits.{Limits}
+use Rattle.phase_accum.specs.declared.outcome.Outcome.{Outcome}
+use Rattle.phase_accum.specs.declared.outcome.Outcome.TheVariants.{Value, Empty, TooBig}
 use Rattle.phase_history.specs.declared.event.Event.TheVariants.{Waited}
 use Rattle.phase_history.specs.declared.got.GotBlock.{GotBlock}
 use Rattle.phase_history.specs.declared.got.GotBlock.TheVariants as got

@@ -1,8 +1,8 @@
 -- A wait for a block that goes no further than the values in range, on one stream: 1, 2, one that
 -- is too big, 3, and a phase that has no value. The replies were found by hand.
 use Rattle.std.proofs.Common.{◌≡◌, List, [], ◌∷◌, Ok, Err, pos, refl}
-use Rattle.phase_history.specs.phase_accum.declared.outcome.Outcome.{Outcome}
-use Rattle.phase_history.specs.phase_accum.declared.outcome.Outcome.TheVariants.{Value, Empty, TooBig}
+use Rattle.phase_accum.specs.declared.outcome.Outcome.{Outcome}
+use Rattle.phase_accum.specs.declared.outcome.Outcome.TheVariants.{Value, Empty, TooBig}
 use Rattle.phase_history.specs.declared.event.Event.TheVariants.{Made, Waited}
 use Rattle.phase_history.specs.declared.got.GotBlock.TheVariants as got
 use Rattle.phase_history.specs.declared.refusal.WaitRefusal.TheVariants as wait

@@ -2,18 +2,18 @@
 use Rattle.std.proofs.Common.{◌≡◌, ℕ, ◌+◌, ◌<◌, ◌≤◌, true, false, not, cond, leb, [], ◌∷◌, Option, Some, None, length, unwrap_or, refl, sym, ap, subst, ◌∙◌, arith, ⊎_elim, inl, inr}
 use Rattle.std.specs.Prelude.{IsSome}
 use Rattle.std.specs.Option.{option_map}
-use Rattle.phase_registry.specs.phase_base.Limits.{Limits}
-use Rattle.phase_registry.specs.phase_base.Modes.{holds, mode_waits}
-use Rattle.phase_registry.specs.phase_base.declared.mode.Mode.{Mode}
-use Rattle.phase_registry.specs.phase_base.declared.entry.Entry.{Entry}
-use Rattle.phase_registry.specs.phase_base.declared.limits.TheConstants.{MEMBERS_MAX}
-use Rattle.phase_registry.specs.phase_base.Members.{Members, entry_of, signal_phases, wait_phases, least}
-use Rattle.phase_history.specs.phase_accum.Operations.{Operation}
+use Rattle.phase_base.specs.Limits.{Limits}
+use Rattle.phase_base.specs.Modes.{holds, mode_waits}
+use Rattle.phase_base.specs.declared.mode.Mode.{Mode}
+use Rattle.phase_base.specs.declared.entry.Entry.{Entry}
+use Rattle.phase_base.specs.declared.limits.TheConstants.{MEMBERS_MAX}
+use Rattle.phase_base.specs.Members.{Members, entry_of, signal_phases, wait_phases, least}
+use Rattle.phase_accum.specs.Operations.{Operation}
 use Rattle.phase_history.specs.declared.event.Event.TheVariants.{Registered}
 use Rattle.phase_history.specs.declared.refusal.RegisterRefusal.TheVariants as register
 use Rattle.phase_history.specs.Histories.{History, entry_at, greatest_used}
 use Rattle.phase_history.specs.Refusals.{register_refusal, refusal_at, register_rows}
-use Rattle.phase_registry.specs.phase_base.Lists.{first_row}
+use Rattle.phase_base.specs.Lists.{first_row}
 use Rattle.phase_history.proofs.MemberLemmas.{holds_signals, holds_waits}
 use Rattle.phase_history.proofs.Refused.{Registers as MayRegister, registers_from}
 use Rattle.phase_registry.specs.declared.refusal.AddRefusal.TheVariants as add

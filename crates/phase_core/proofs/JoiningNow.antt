@@ -3,12 +3,12 @@ use Rattle.std.proofs.Common.{◌≡◌, ℕ, ◌+◌, ◌++◌, ◌<◌, true, 
 use Rattle.std.specs.Prelude.{IsSome}
 use Rattle.std.specs.Option.{option_map}
 use Rattle.std.proofs.lemmas.Option.{same_Some}
-use Rattle.phase_registry.specs.phase_base.Limits.{Limits}
-use Rattle.phase_registry.specs.phase_base.Modes.{holds, mode_waits}
-use Rattle.phase_registry.specs.phase_base.declared.mode.Mode.{Mode}
-use Rattle.phase_registry.specs.phase_base.declared.entry.Entry.{Entry}
-use Rattle.phase_registry.specs.phase_base.Members.{member, entry_of, signal_phases, wait_phases}
-use Rattle.phase_history.specs.phase_accum.Operations.{Operation}
+use Rattle.phase_base.specs.Limits.{Limits}
+use Rattle.phase_base.specs.Modes.{holds, mode_waits}
+use Rattle.phase_base.specs.declared.mode.Mode.{Mode}
+use Rattle.phase_base.specs.declared.entry.Entry.{Entry}
+use Rattle.phase_base.specs.Members.{member, entry_of, signal_phases, wait_phases}
+use Rattle.phase_accum.specs.Operations.{Operation}
 use Rattle.phase_history.specs.declared.event.Event.TheVariants.{RegisteredNow}
 use Rattle.phase_history.specs.Histories.{History, entry_at, members_of, member_entry, done_of, greatest_used}
 use Rattle.phase_history.specs.Refusals.{register_now_refusal}
@@ -17,7 +17,7 @@ use Rattle.phase_registry.specs.Rosters.{Roster, add_refusal, added}
 use Rattle.phase_ring.specs.declared.board.Board.{Board}
 use Rattle.phase_ring.specs.declared.role.Role.TheVariants.{Signaller, Waiter}
 use Rattle.phase_ring.specs.Rings.{Ring, standing, sents}
-use Rattle.phase_registry.specs.phase_base.declared.mode.Mode.TheVariants.{Single, SigWait, Sig, Wait}
+use Rattle.phase_base.specs.declared.mode.Mode.TheVariants.{Single, SigWait, Sig, Wait}
 use Rattle.phase_history.proofs.Steps.{member_entry_is}
 use Rattle.phase_core.proofs.NewCore.{done_of_boarded}
 use Rattle.phase_core.proofs.Boarded.{slowest_is}

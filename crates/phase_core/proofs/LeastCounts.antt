@@ -3,10 +3,10 @@ use Rattle.std.proofs.Common.{◌≡◌, ℕ, ◌+◌, ◌<◌, ◌≤◌, ◌�
 use Rattle.std.specs.List.{filter}
 use Rattle.std.proofs.lemmas.Option.{same_Some}
 use Rattle.std.proofs.lemmas.Bool.{cases_eq, cases_lt, eq-eqb, ne_eqb}
-use Rattle.phase_registry.specs.phase_base.Modes.{mode_signals, mode_waits}
-use Rattle.phase_registry.specs.phase_base.declared.entry.Entry.{Entry}
-use Rattle.phase_registry.specs.phase_base.declared.member.Member.{Member}
-use Rattle.phase_registry.specs.phase_base.Members.{Members, member, entry_of, changed_at, signal_phases, wait_phases, least, lesser, signalled, waited}
+use Rattle.phase_base.specs.Modes.{mode_signals, mode_waits}
+use Rattle.phase_base.specs.declared.entry.Entry.{Entry}
+use Rattle.phase_base.specs.declared.member.Member.{Member}
+use Rattle.phase_base.specs.Members.{Members, member, entry_of, changed_at, signal_phases, wait_phases, least, lesser, signalled, waited}
 use Rattle.phase_ring.specs.Standings.{one_if_same, count_of}
 use Rattle.phase_history.proofs.Each.{Each}
 

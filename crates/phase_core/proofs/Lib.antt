@@ -25,6 +25,3 @@ pub mod SignalRows
 pub mod SignalSlots
 pub mod TwoSlices
 pub mod WaitCore
-pub use Rattle.phase_history.proofs.phase_accum_lemmas as phase_accum_lemmas
-pub use Rattle.phase_history.proofs as phase_history_lemmas
-pub use Rattle.phase_ring.proofs as phase_ring_lemmas

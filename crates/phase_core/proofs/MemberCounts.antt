@@ -1,10 +1,10 @@
 -- How many members stand at a phase in a role, after one joins and after one leaves.
 use Rattle.std.proofs.Common.{◌≡◌, ℕ, ◌+◌, ◌<◌, ◌≤◌, Bool, true, false, cond, eqb, List, [], ◌∷◌, ◌++◌, Some, length, map, refl, sym, ap, ◌∙◌, arith}
 use Rattle.std.specs.List.{filter}
-use Rattle.phase_registry.specs.phase_base.Modes.{mode_signals, mode_waits}
-use Rattle.phase_registry.specs.phase_base.declared.entry.Entry.{Entry}
-use Rattle.phase_registry.specs.phase_base.declared.member.Member.{Member}
-use Rattle.phase_registry.specs.phase_base.Members.{Members, member, entry_of, without, signal_phases, wait_phases}
+use Rattle.phase_base.specs.Modes.{mode_signals, mode_waits}
+use Rattle.phase_base.specs.declared.entry.Entry.{Entry}
+use Rattle.phase_base.specs.declared.member.Member.{Member}
+use Rattle.phase_base.specs.Members.{Members, member, entry_of, without, signal_phases, wait_phases}
 use Rattle.phase_registry.specs.Rosters.{AreRising}
 use Rattle.phase_registry.proofs.Weights.{weigh, weigh-push, weigh-without, AreApart-from_rising, length-picked}
 use Rattle.phase_ring.specs.declared.role.Role.{Role}

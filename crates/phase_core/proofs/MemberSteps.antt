@@ -1,15 +1,15 @@
 -- What a registration and a drop leave of a core, and that the core then stands for the history with it.
 use Rattle.std.proofs.Common.{◌≡◌, ℕ, ◌≤◌, Bool, true, not, eqb, List, [], ◌∷◌, ◌++◌, Some, None, max, unwrap_or, refl, sym, ap, subst, ◌∙◌, arith}
 use Rattle.std.proofs.lemmas.Option.{same_Some}
-use Rattle.phase_registry.specs.phase_base.Limits.{Limits}
-use Rattle.phase_registry.specs.phase_base.Modes.{mode_waits, holds}
-use Rattle.phase_registry.specs.phase_base.declared.mode.Mode.{Mode}
-use Rattle.phase_registry.specs.phase_base.declared.entry.Entry.{Entry}
-use Rattle.phase_registry.specs.phase_base.declared.member.Member.{Member}
-use Rattle.phase_history.specs.phase_accum.Operations.{Operation}
+use Rattle.phase_base.specs.Limits.{Limits}
+use Rattle.phase_base.specs.Modes.{mode_waits, holds}
+use Rattle.phase_base.specs.declared.mode.Mode.{Mode}
+use Rattle.phase_base.specs.declared.entry.Entry.{Entry}
+use Rattle.phase_base.specs.declared.member.Member.{Member}
+use Rattle.phase_accum.specs.Operations.{Operation}
 use Rattle.phase_history.specs.declared.event.Event.TheVariants.{Registered, Dropped}
 use Rattle.phase_core.specs.Slots.{KeptSlot}
-use Rattle.phase_registry.specs.phase_base.Members.{Members, member, entry_of, without, wait_phases, least}
+use Rattle.phase_base.specs.Members.{Members, member, entry_of, without, wait_phases, least}
 use Rattle.phase_history.specs.Histories.{History, members_of, entry_at}
 use Rattle.phase_history.specs.Refusals.{register_refusal, drop_refusal}
 use Rattle.phase_history.specs.Legal.{IsLegal}

@@ -1,8 +1,8 @@
 -- A new core, and what the readers tell.
 use Rattle.std.proofs.Common.{◌≡◌, ℕ, [], ◌∷◌, Some, unwrap_or, refl, sym, ◌∙◌, ap, arith, inl, inr}
-use Rattle.phase_registry.specs.phase_base.Limits.{AreLimits}
-use Rattle.phase_registry.specs.phase_base.Members.{member, signal_phases, least}
-use Rattle.phase_history.specs.phase_accum.Operations.{Operation}
+use Rattle.phase_base.specs.Limits.{AreLimits}
+use Rattle.phase_base.specs.Members.{member, signal_phases, least}
+use Rattle.phase_accum.specs.Operations.{Operation}
 use Rattle.phase_history.specs.declared.event.Event.TheVariants.{Made}
 use Rattle.phase_history.specs.Histories.{History, founder, members_of, done_of}
 use Rattle.phase_registry.specs.Rosters.{Roster, roster}

@@ -4,9 +4,9 @@ use Rattle.std.specs.Prelude.{unsigned_abs}
 use Rattle.std.specs.List.{All}
 use Rattle.std.proofs.lemmas.List.{map_more, take_more_set}
 use Rattle.phase_ring.proofs.Held.{AreSends-at}
-use Rattle.phase_history.specs.phase_accum.Operations.{Operation}
-use Rattle.phase_history.specs.phase_accum.Parcels.{Parcel, StandsForSends}
-use Rattle.phase_history.specs.phase_accum.Sends.{AreSends, value_max}
+use Rattle.phase_accum.specs.Operations.{Operation}
+use Rattle.phase_accum.specs.Parcels.{Parcel, StandsForSends}
+use Rattle.phase_accum.specs.Sends.{AreSends, value_max}
 use Rattle.phase_core.specs.Blocks.{StandForLists, one_each}
 
 -- those of which each is small are those that can be sent

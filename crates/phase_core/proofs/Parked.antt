@@ -7,15 +7,15 @@ use Rattle.std.proofs.lemmas.Option.{same_Some}
 use Rattle.std.proofs.lemmas.List.{length-map, map-append}
 use Rattle.std.proofs.lemmas.Simd.{map-map}
 use Rattle.phase_history.proofs.Each.{Each, Each-of_picked, least_low}
-use Rattle.phase_history.specs.phase_accum.Operations.{Operation}
-use Rattle.phase_history.specs.phase_accum.declared.single.Single.{Single}
+use Rattle.phase_accum.specs.Operations.{Operation}
+use Rattle.phase_accum.specs.declared.single.Single.{Single}
 use Rattle.phase_history.specs.declared.event.Event.TheVariants.{Made, Dropped}
 use Rattle.phase_history.proofs.Standstill.{limits_of}
-use Rattle.phase_registry.specs.phase_base.Limits.{AreLimits, Limits}
-use Rattle.phase_registry.specs.phase_base.Modes.{mode_signals, mode_waits}
-use Rattle.phase_registry.specs.phase_base.declared.entry.Entry.{Entry}
-use Rattle.phase_registry.specs.phase_base.declared.member.Member.{Member}
-use Rattle.phase_registry.specs.phase_base.Members.{Members, entry_of, least, lesser, signal_phases, wait_phases}
+use Rattle.phase_base.specs.Limits.{AreLimits, Limits}
+use Rattle.phase_base.specs.Modes.{mode_signals, mode_waits}
+use Rattle.phase_base.specs.declared.entry.Entry.{Entry}
+use Rattle.phase_base.specs.declared.member.Member.{Member}
+use Rattle.phase_base.specs.Members.{Members, entry_of, least, lesser, signal_phases, wait_phases}
 use Rattle.phase_registry.specs.Rosters.{Roster, roster}
 use Rattle.phase_ring.specs.declared.board.Board.{Board}
 use Rattle.phase_ring.specs.declared.role.Role.{Role}

@@ -6,25 +6,24 @@ use Rattle.std.proofs.lemmas.Option.{same_Some}
 use Rattle.std.proofs.lemmas.Bool.{le-leb, lt-ltb, lt-leb, cases_lt}
 use Rattle.phase_ring.proofs.Slots.{slice_get-append_left}
 use Rattle.phase_ring.proofs.Held.{AreSends-at}
-use Rattle.phase_registry.specs.phase_base.Limits.{Limits}
-use Rattle.phase_registry.specs.phase_base.declared.entry.Entry.{Entry}
-use Rattle.phase_registry.specs.phase_base.Members.{entry_of, changed_at, signalled, waited, wait_phases, least}
+use Rattle.phase_base.specs.Limits.{Limits}
+use Rattle.phase_base.specs.declared.entry.Entry.{Entry}
+use Rattle.phase_base.specs.Members.{entry_of, changed_at, signalled, waited, wait_phases, least}
 use Rattle.phase_registry.specs.Rosters.{Roster, roster}
-use Rattle.phase_history.specs.phase_accum.Operations.{Operation, AccumulateLaws}
-use Rattle.phase_history.specs.phase_accum.Sends.{AreSends}
-use Rattle.phase_history.proofs.phase_accum_lemmas.Parts.{IsPartOf-one}
+use Rattle.phase_accum.specs.Operations.{Operation, AccumulateLaws}
+use Rattle.phase_accum.specs.Sends.{AreSends}
+use Rattle.phase_accum.proofs.Parts.{IsPartOf-one}
 use Rattle.phase_history.specs.declared.event.Event.TheVariants.{Signalled, Waited}
 use Rattle.phase_history.specs.Histories.{History, members_of, top_of, done_of, signal_phase}
 use Rattle.phase_history.specs.Phases.{value_of_phase, sends_of_phase, named_in_phase, list_in_phase, first_named, is_among}
 use Rattle.phase_history.specs.declared.refusal.SignalRefusal.{SignalRefusal}
 use Rattle.phase_history.specs.declared.refusal.SignalRefusal.TheVariants as refusal
 use Rattle.phase_history.specs.Refusals.{signal_refusal, wait_refusal, phase_rows, list_rows}
-use Rattle.phase_registry.specs.phase_base.Modes.{mode_waits}
-use Rattle.phase_registry.specs.phase_base.Lists.{first_row}
+use Rattle.phase_base.specs.Modes.{mode_waits}
+use Rattle.phase_base.specs.Lists.{first_row}
 use Rattle.phase_history.proofs.Refused.{first_row_none}
-use Rattle.phase_history.specs.Legal.{IsLegal}
+use Rattle.phase_history.specs.Legal.{IsLegal, AreLists}
 use Rattle.phase_core.proofs.SignalRows.{first_or, first_row-append}
-use Rattle.phase_history.specs.Legal.{AreLists}
 use Rattle.phase_history.proofs.MemberLemmas.{wait_phases-signalled}
 use Rattle.phase_history.proofs.Sendings.{list_in_phase-place}
 use Rattle.phase_history.proofs.BlockLeaves.{is_among-below}

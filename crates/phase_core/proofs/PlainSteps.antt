@@ -5,7 +5,7 @@ use Rattle.std.specs.List.{All}
 use Rattle.std.proofs.lemmas.Bool.{cases_eq, cases_lt, le-ltb, ne_eqb}
 use Rattle.std.proofs.lemmas.List.{length-append, length-map}
 use Rattle.std.proofs.lemmas.List.Elements.{All-weaker}
-use Rattle.phase_history.proofs.phase_accum_lemmas.Parts.{AreSends-append}
+use Rattle.phase_accum.proofs.Parts.{AreSends-append}
 use Rattle.phase_history.proofs.MemberLemmas.{wait_phases-signalled}
 use Rattle.phase_history.specs.declared.event.Event.TheVariants.{Signalled}
 use Rattle.phase_history.specs.declared.refusal.SignalRefusal.{SignalRefusal}
@@ -13,13 +13,13 @@ use Rattle.phase_history.specs.declared.refusal.SignalRefusal.TheVariants as ref
 use Rattle.phase_history.specs.Histories.{History, members_of, signal_phase}
 use Rattle.phase_history.specs.Refusals.{is_bad_block, list_rows, refusal_at, signal_refusal, signal_rows}
 use Rattle.phase_history.specs.Replies.{refused_or, signal_reply}
-use Rattle.phase_history.specs.phase_accum.Operations.{AccumulateLaws, Operation}
-use Rattle.phase_history.specs.phase_accum.Sends.{AreSends}
-use Rattle.phase_registry.specs.phase_base.Limits.{Limits}
-use Rattle.phase_registry.specs.phase_base.Lists.{first_row}
-use Rattle.phase_registry.specs.phase_base.Modes.{mode_signals, mode_waits}
-use Rattle.phase_registry.specs.phase_base.declared.entry.Entry.{Entry}
-use Rattle.phase_registry.specs.phase_base.Members.{changed_at, entry_of, least, signal_phases, signalled, wait_phases}
+use Rattle.phase_accum.specs.Operations.{AccumulateLaws, Operation}
+use Rattle.phase_accum.specs.Sends.{AreSends}
+use Rattle.phase_base.specs.Limits.{Limits}
+use Rattle.phase_base.specs.Lists.{first_row}
+use Rattle.phase_base.specs.Modes.{mode_signals, mode_waits}
+use Rattle.phase_base.specs.declared.entry.Entry.{Entry}
+use Rattle.phase_base.specs.Members.{changed_at, entry_of, least, signal_phases, signalled, wait_phases}
 use Rattle.phase_registry.specs.Rosters.{Roster, roster}
 use Rattle.phase_ring.specs.Standings.{count_of, one_if_same}
 use Rattle.phase_core.specs.Blocks.{one_each}

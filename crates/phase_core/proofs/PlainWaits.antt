@@ -11,9 +11,9 @@ use Rattle.phase_history.proofs.Each.{Each, least_low, least_or_high}
 use Rattle.phase_history.proofs.MemberLemmas.{entry_of-changed_same, signal_phases-waited}
 use Rattle.phase_history.proofs.Refused.{no_row}
 use Rattle.phase_history.proofs.BlockAnswers.{asked_some}
-use Rattle.phase_history.proofs.phase_accum_lemmas.Parts.{AreSends-drop}
-use Rattle.phase_history.specs.phase_accum.Operations.{AccumulateLaws, Operation}
-use Rattle.phase_history.specs.phase_accum.Sends.{AreSends}
+use Rattle.phase_accum.proofs.Parts.{AreSends-drop}
+use Rattle.phase_accum.specs.Operations.{AccumulateLaws, Operation}
+use Rattle.phase_accum.specs.Sends.{AreSends}
 use Rattle.phase_history.specs.declared.event.Event.TheVariants.{Waited}
 use Rattle.phase_history.specs.declared.refusal.WaitRefusal.{WaitRefusal}
 use Rattle.phase_history.specs.declared.refusal.WaitRefusal.TheVariants as wait
@@ -25,11 +25,11 @@ use Rattle.phase_history.proofs.Steps.{member_entry_is}
 use Rattle.phase_core.proofs.Replies.{got_value}
 use Rattle.phase_history.specs.Phases.{stream_of, value_of_phase}
 use Rattle.phase_history.specs.Refusals.{refusal_at, wait_refusal, wait_rows_at}
-use Rattle.phase_registry.specs.phase_base.Limits.{Limits}
-use Rattle.phase_registry.specs.phase_base.Lists.{first_row}
-use Rattle.phase_registry.specs.phase_base.Modes.{mode_waits}
-use Rattle.phase_registry.specs.phase_base.declared.entry.Entry.{Entry}
-use Rattle.phase_registry.specs.phase_base.Members.{Members, changed_at, entry_of, least, lesser, signal_phases, wait_phases, waited}
+use Rattle.phase_base.specs.Limits.{Limits}
+use Rattle.phase_base.specs.Lists.{first_row}
+use Rattle.phase_base.specs.Modes.{mode_waits}
+use Rattle.phase_base.specs.declared.entry.Entry.{Entry}
+use Rattle.phase_base.specs.Members.{Members, changed_at, entry_of, least, lesser, signal_phases, wait_phases, waited}
 use Rattle.phase_registry.specs.Rosters.{Roster, roster}
 use Rattle.phase_ring.specs.Standings.{count_of, one_if_same}
 use Rattle.phase_core.specs.Cores.{StandsFor}

@@ -4,9 +4,9 @@ use Rattle.std.specs.Prelude.{slice_get}
 use Rattle.std.specs.Option.{option_map}
 use Rattle.std.proofs.lemmas.Option.{same_Some, slice_get-map}
 use Rattle.std.proofs.lemmas.Bool.{cases_lt}
-use Rattle.phase_registry.specs.phase_base.Limits.{Limits}
-use Rattle.phase_history.specs.phase_accum.declared.single.Single.{Single}
-use Rattle.phase_history.specs.phase_accum.Operations.{Operation, IsPartOf}
+use Rattle.phase_base.specs.Limits.{Limits}
+use Rattle.phase_accum.specs.declared.single.Single.{Single}
+use Rattle.phase_accum.specs.Operations.{Operation, IsPartOf}
 use Rattle.phase_history.specs.Histories.{History, top_of}
 use Rattle.phase_history.specs.Phases.{first_named}
 use Rattle.phase_registry.specs.Rosters.{Roster}

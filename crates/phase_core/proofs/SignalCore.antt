@@ -4,15 +4,15 @@ use Rattle.std.specs.Prelude.{IfSome, IsSome}
 use Rattle.std.proofs.lemmas.List.{length-set}
 use Rattle.std.proofs.lemmas.Option.{same_Some}
 use Rattle.std.proofs.lemmas.Bool.{cases_lt}
-use Rattle.phase_registry.specs.phase_base.Limits.{Limits}
-use Rattle.phase_registry.specs.phase_base.Modes.{mode_signals}
-use Rattle.phase_registry.specs.phase_base.declared.limits.TheConstants.{MEMBERS_MAX}
-use Rattle.phase_registry.specs.phase_base.declared.entry.Entry.{Entry}
-use Rattle.phase_registry.specs.phase_base.Members.{Members, entry_of, changed_at, signal_phases, wait_phases, least, signalled}
-use Rattle.phase_history.specs.phase_accum.declared.single.Single.{Single}
-use Rattle.phase_history.specs.phase_accum.Singles.{CanBeNamed}
-use Rattle.phase_history.specs.phase_accum.Operations.{Operation, AccumulateLaws, IsPartOf}
-use Rattle.phase_history.specs.phase_accum.Parcels.{Parcel}
+use Rattle.phase_base.specs.Limits.{Limits}
+use Rattle.phase_base.specs.Modes.{mode_signals}
+use Rattle.phase_base.specs.declared.limits.TheConstants.{MEMBERS_MAX}
+use Rattle.phase_base.specs.declared.entry.Entry.{Entry}
+use Rattle.phase_base.specs.Members.{Members, entry_of, changed_at, signal_phases, wait_phases, least, signalled}
+use Rattle.phase_accum.specs.declared.single.Single.{Single}
+use Rattle.phase_accum.specs.Singles.{CanBeNamed}
+use Rattle.phase_accum.specs.Operations.{Operation, AccumulateLaws, IsPartOf}
+use Rattle.phase_accum.specs.Parcels.{Parcel}
 use Rattle.phase_history.specs.declared.event.Event.TheVariants.{Signalled}
 use Rattle.phase_history.specs.Histories.{History, members_of, top_of, signal_phase}
 use Rattle.phase_history.specs.Phases.{sends_of_phase, named_in_phase, list_in_phase, first_named, is_among}

@@ -2,19 +2,19 @@
 use Rattle.std.proofs.Common.{◌≡◌, ℕ, ℤ, ◌+◌, ◌<◌, ◌≤◌, ◌⊎◌, Bool, true, false, not, eqb, ltb, List, [], Option, Some, None, length, refl, sym, ◌∙◌, ap, arith, ⊎_elim, inl, inr}
 use Rattle.std.specs.Prelude.{IsSome}
 use Rattle.std.proofs.lemmas.Bool.{ltb-false, eqb-false, or_parts}
-use Rattle.phase_registry.specs.phase_base.Limits.{Limits}
-use Rattle.phase_registry.specs.phase_base.Modes.{mode_signals}
-use Rattle.phase_registry.specs.phase_base.declared.entry.Entry.{Entry}
-use Rattle.phase_registry.specs.phase_base.declared.limits.TheConstants.{MEMBERS_MAX}
-use Rattle.phase_registry.specs.phase_base.Members.{member, entry_of, wait_phases, least}
-use Rattle.phase_history.specs.phase_accum.declared.single.Single.{Single}
-use Rattle.phase_history.specs.phase_accum.Operations.{Operation}
-use Rattle.phase_history.specs.phase_accum.Parcels.{Parcel}
+use Rattle.phase_base.specs.Limits.{Limits}
+use Rattle.phase_base.specs.Modes.{mode_signals}
+use Rattle.phase_base.specs.declared.entry.Entry.{Entry}
+use Rattle.phase_base.specs.declared.limits.TheConstants.{MEMBERS_MAX}
+use Rattle.phase_base.specs.Members.{member, entry_of, wait_phases, least}
+use Rattle.phase_accum.specs.declared.single.Single.{Single}
+use Rattle.phase_accum.specs.Operations.{Operation}
+use Rattle.phase_accum.specs.Parcels.{Parcel}
 use Rattle.phase_history.specs.declared.refusal.SignalRefusal.{SignalRefusal}
 use Rattle.phase_history.specs.declared.refusal.SignalRefusal.TheVariants as signal
 use Rattle.phase_history.specs.Histories.{History, members_of, top_of, done_of, greatest_used}
 use Rattle.phase_history.specs.Refusals.{signal_rows, signal_rows_before, list_rows, signal_refusal, refusal_at}
-use Rattle.phase_registry.specs.phase_base.Lists.{first_row}
+use Rattle.phase_base.specs.Lists.{first_row}
 use Rattle.phase_history.proofs.Refused.{no_row}
 use Rattle.phase_history.proofs.Tops.{top_within}
 use Rattle.phase_history.proofs.MemberLemmas.{Each-entry}

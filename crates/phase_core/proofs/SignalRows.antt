@@ -4,21 +4,21 @@ use Rattle.std.proofs.Common.{◌≡◌, ℕ, ℤ, ◌+◌, ◌<◌, ◌≤◌, 
 use Rattle.std.specs.Prelude.{is_some, IsSome}
 use Rattle.std.specs.Option.{option_map}
 use Rattle.std.proofs.lemmas.Bool.{leb-true, leb-false, lt-leb, le-ltb, cases_lt, not-true}
-use Rattle.phase_registry.specs.phase_base.Limits.{Limits}
-use Rattle.phase_registry.specs.phase_base.Modes.{mode_waits}
-use Rattle.phase_registry.specs.phase_base.declared.entry.Entry.{Entry}
-use Rattle.phase_registry.specs.phase_base.declared.limits.TheConstants.{SENDS_MAX}
-use Rattle.phase_registry.specs.phase_base.Members.{wait_phases, least, signalled}
-use Rattle.phase_history.specs.phase_accum.declared.single.Single.{Single}
-use Rattle.phase_history.specs.phase_accum.Singles.{differs}
-use Rattle.phase_history.specs.phase_accum.Operations.{Operation}
-use Rattle.phase_history.specs.phase_accum.Parcels.{Parcel, StandsForSends}
+use Rattle.phase_base.specs.Limits.{Limits}
+use Rattle.phase_base.specs.Modes.{mode_waits}
+use Rattle.phase_base.specs.declared.entry.Entry.{Entry}
+use Rattle.phase_base.specs.declared.limits.TheConstants.{SENDS_MAX}
+use Rattle.phase_base.specs.Members.{wait_phases, least, signalled}
+use Rattle.phase_accum.specs.declared.single.Single.{Single}
+use Rattle.phase_accum.specs.Singles.{differs}
+use Rattle.phase_accum.specs.Operations.{Operation}
+use Rattle.phase_accum.specs.Parcels.{Parcel, StandsForSends}
 use Rattle.phase_history.specs.declared.refusal.SignalRefusal.{SignalRefusal}
 use Rattle.phase_history.specs.declared.refusal.SignalRefusal.TheVariants as signal
 use Rattle.phase_history.specs.Histories.{History, signal_phase, members_of, top_of}
 use Rattle.phase_history.specs.Phases.{sends_of_phase, named_in_phase}
 use Rattle.phase_history.specs.Refusals.{signal_refusal, is_ahead, phase_rows, list_rows}
-use Rattle.phase_registry.specs.phase_base.Lists.{first_row}
+use Rattle.phase_base.specs.Lists.{first_row}
 use Rattle.phase_history.specs.Replies.{signal_reply, refused_or}
 use Rattle.phase_history.proofs.Refused.{no_row, first_row_none}
 use Rattle.phase_registry.specs.Rosters.{Roster}

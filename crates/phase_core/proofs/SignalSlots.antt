@@ -2,10 +2,10 @@
 use Rattle.std.proofs.Common.{◌≡◌, ℕ, suc, ◌+◌, ◌≤◌, Bool, true, false, ◌&&◌, cond, ltb, List, [], ◌∷◌, ◌++◌, Option, Some, None, ℤ, length, length-append, refl, sym, ap, ◌∙◌, arith, ⊎_elim}
 use Rattle.std.proofs.lemmas.List.{append-nil, append_assoc, length-set}
 use Rattle.std.proofs.lemmas.Bool.{eq-eqb, ne_eqb, le-leb, lt-ltb, le-ltb, cases_lt}
-use Rattle.phase_history.specs.phase_accum.declared.single.Single.{Single}
-use Rattle.phase_history.specs.phase_accum.Operations.{Operation, AccumulateLaws, IsPartOf}
-use Rattle.phase_history.specs.phase_accum.Parcels.{Parcel, StandsForSends}
-use Rattle.phase_history.proofs.phase_accum_lemmas.Parts.{IsPartOf-join}
+use Rattle.phase_accum.specs.declared.single.Single.{Single}
+use Rattle.phase_accum.specs.Operations.{Operation, AccumulateLaws, IsPartOf}
+use Rattle.phase_accum.specs.Parcels.{Parcel, StandsForSends}
+use Rattle.phase_accum.proofs.Parts.{IsPartOf-join}
 use Rattle.phase_history.specs.Phases.{list_in_phase, first_named, is_among}
 use Rattle.phase_history.specs.Legal.{AreLists}
 use Rattle.phase_history.proofs.BlockLeaves.{list_in_phase-first, first_named-twice, is_among-below, is_among-first}

@@ -2,19 +2,19 @@
 use Rattle.std.proofs.Common.{◌≡◌, ℕ, ◌+◌, ◌<◌, ◌≤◌, ◌⊎◌, true, Bool, [], ◌∷◌, Option, Some, None, Ok, length, unwrap_or, refl, sym, ◌∙◌, ap, arith, ⊎_elim, inl, inr, zero, suc, ◌-◌, cond, map, take, drop, min, List, ◌++◌, Result, ℤ}
 use Rattle.std.specs.Prelude.{is_some, slice_range}
 use Rattle.std.proofs.lemmas.Option.{same_Some}
-use Rattle.phase_registry.specs.phase_base.Modes.{mode_waits}
-use Rattle.phase_registry.specs.phase_base.declared.entry.Entry.{Entry}
-use Rattle.phase_registry.specs.phase_base.declared.limits.TheConstants.{MEMBERS_MAX}
-use Rattle.phase_registry.specs.phase_base.Members.{entry_of, changed_at, signal_phases, wait_phases, least, waited}
-use Rattle.phase_history.specs.phase_accum.declared.outcome.Outcome.{Outcome}
-use Rattle.phase_history.specs.phase_accum.Operations.{Operation, AccumulateLaws}
+use Rattle.phase_base.specs.Modes.{mode_waits}
+use Rattle.phase_base.specs.declared.entry.Entry.{Entry}
+use Rattle.phase_base.specs.declared.limits.TheConstants.{MEMBERS_MAX}
+use Rattle.phase_base.specs.Members.{entry_of, changed_at, signal_phases, wait_phases, least, waited}
+use Rattle.phase_accum.specs.declared.outcome.Outcome.{Outcome}
+use Rattle.phase_accum.specs.Operations.{Operation, AccumulateLaws}
 use Rattle.phase_history.specs.declared.event.Event.TheVariants.{Waited}
 use Rattle.phase_history.specs.declared.got.Got.TheVariants as got
 use Rattle.phase_history.specs.declared.refusal.WaitRefusal.{WaitRefusal}
 use Rattle.phase_history.specs.Histories.{History, done_of, members_of, wait_phase}
 use Rattle.phase_history.specs.Phases.{value_of_phase, stream_of}
 use Rattle.phase_history.specs.Refusals.{wait_refusal, plain_wait_rows, refusal_at, wait_rows_at}
-use Rattle.phase_registry.specs.phase_base.Lists.{first_row}
+use Rattle.phase_base.specs.Lists.{first_row}
 use Rattle.phase_history.specs.Replies.{wait_reply, refused_or, got_at, wait_block_reply, got_block_at}
 use Rattle.phase_history.proofs.MemberLemmas.{signal_phases-waited}
 use Rattle.phase_registry.specs.Rosters.{Roster, roster}
@@ -44,8 +44,8 @@ use Rattle.phase_history.specs.declared.got.GotBlock.TheVariants as got_block
 use Rattle.std.proofs.lemmas.List.FromFn.{take-map-range_with_len, length-range_with_len}
 use Rattle.std.proofs.lemmas.List.{length-take, length-drop, length-map, take-append-le}
 use Rattle.std.proofs.lemmas.List.Elements.{All-take, All-drop}
-use Rattle.phase_registry.specs.phase_base.Limits.{Limits}
-use Rattle.phase_history.specs.phase_accum.Values.{IsInRange}
+use Rattle.phase_base.specs.Limits.{Limits}
+use Rattle.phase_accum.specs.Values.{IsInRange}
 use Rattle.phase_history.specs.declared.got.GotBlock.{GotBlock}
 use Rattle.phase_history.specs.Legal.{IsLegal}
 use Rattle.phase_history.proofs.BlockAnswers.{block_tells}

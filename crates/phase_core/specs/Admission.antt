@@ -1,8 +1,8 @@
 -- Why a registration is refused, by why a number is not added; and when a block of signals is not.
 use Rattle.std.specs.Prelude.{ℕ, ◌+◌, Option, Some, None, Bool, false, not, ◌&&◌, nat_le}
-use Rattle.phase_registry.specs.phase_base.Limits.{Limits}
-use Rattle.phase_registry.specs.phase_base.Modes.{mode_waits}
-use Rattle.phase_registry.specs.phase_base.declared.entry.Entry.{Entry}
+use Rattle.phase_base.specs.Limits.{Limits}
+use Rattle.phase_base.specs.Modes.{mode_waits}
+use Rattle.phase_base.specs.declared.entry.Entry.{Entry}
 use Rattle.phase_registry.specs.declared.refusal.AddRefusal.{AddRefusal}
 use Rattle.phase_history.specs.declared.refusal.RegisterRefusal.{RegisterRefusal}
 use Rattle.phase_registry.specs.declared.refusal.AddRefusal.TheVariants as add

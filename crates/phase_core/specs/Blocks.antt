@@ -1,13 +1,13 @@
 -- Blocks of phases: what their sends are, and the rows of a block's signals by the ring.
 use Rattle.std.specs.Prelude.{◌≡◌, ℕ, zero, ◌+◌, ◌≤◌, ℤ, List, [], ◌∷◌, ◌++◌, length, map, Option, Some, None, Bool, Result, Ok, Err, drop, slice_range}
 use Rattle.std.specs.List.{take_while}
-use Rattle.phase_registry.specs.phase_base.Limits.{Limits}
-use Rattle.phase_registry.specs.phase_base.declared.entry.Entry.{Entry}
-use Rattle.phase_registry.specs.phase_base.Members.{signalled}
-use Rattle.phase_history.specs.phase_accum.declared.single.Single.{Single}
-use Rattle.phase_history.specs.phase_accum.Operations.{Operation}
-use Rattle.phase_history.specs.phase_accum.Parcels.{Parcel, StandsForSends}
-use Rattle.phase_history.specs.phase_accum.declared.outcome.Outcome.{Outcome}
+use Rattle.phase_base.specs.Limits.{Limits}
+use Rattle.phase_base.specs.declared.entry.Entry.{Entry}
+use Rattle.phase_base.specs.Members.{signalled}
+use Rattle.phase_accum.specs.declared.single.Single.{Single}
+use Rattle.phase_accum.specs.Operations.{Operation}
+use Rattle.phase_accum.specs.Parcels.{Parcel, StandsForSends}
+use Rattle.phase_accum.specs.declared.outcome.Outcome.{Outcome}
 use Rattle.phase_history.specs.declared.got.GotBlock.{GotBlock}
 use Rattle.phase_history.specs.declared.got.GotBlock.TheVariants as got
 use Rattle.phase_history.specs.declared.refusal.WaitRefusal.{WaitRefusal}

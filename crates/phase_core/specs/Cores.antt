@@ -1,9 +1,9 @@
 -- What a core keeps, and the histories that it stands for.
 use Rattle.std.specs.Prelude.{◌≡◌, ℕ, ◌+◌, ◌<◌, ◌≤◌, ◌⊎◌, List, [], Some, IsSome, length, map, slice_get, unwrap_or}
-use Rattle.phase_registry.specs.phase_base.Limits.{Limits}
-use Rattle.phase_history.specs.phase_accum.Operations.{Operation, IsPartOf}
+use Rattle.phase_base.specs.Limits.{Limits}
+use Rattle.phase_accum.specs.Operations.{Operation, IsPartOf}
 use Rattle.phase_core.specs.Slots.{KeptSlot}
-use Rattle.phase_registry.specs.phase_base.Members.{Members, signal_phases, wait_phases, least}
+use Rattle.phase_base.specs.Members.{Members, signal_phases, wait_phases, least}
 use Rattle.phase_history.specs.Histories.{History, members_of, top_of, greatest_used}
 use Rattle.phase_history.specs.Phases.{sends_of_phase, named_in_phase}
 use Rattle.phase_history.specs.Legal.{IsLegal}

@@ -1,13 +1,13 @@
 -- Phases of one send each, of which the values alone are kept.
 use Rattle.std.specs.Prelude.{◌≡◌, ℕ, ℤ, ◌+◌, ◌-◌, ◌≤◌, List, [], ◌∷◌, ◌++◌, Some, None, IsSome, length, map, replicate, unwrap_or}
 use Rattle.std.specs.List.{All}
-use Rattle.phase_history.specs.phase_accum.Operations.{Operation}
-use Rattle.phase_history.specs.phase_accum.declared.outcome.Outcome.{Outcome}
-use Rattle.phase_history.specs.phase_accum.Sends.{AreSends}
+use Rattle.phase_accum.specs.Operations.{Operation}
+use Rattle.phase_accum.specs.declared.outcome.Outcome.{Outcome}
+use Rattle.phase_accum.specs.Sends.{AreSends}
 use Rattle.phase_history.specs.Histories.{History}
-use Rattle.phase_registry.specs.phase_base.Limits.{Limits}
-use Rattle.phase_registry.specs.phase_base.declared.limits.TheConstants.{PHASES_MAX}
-use Rattle.phase_registry.specs.phase_base.Members.{least, signal_phases, wait_phases}
+use Rattle.phase_base.specs.Limits.{Limits}
+use Rattle.phase_base.specs.declared.limits.TheConstants.{PHASES_MAX}
+use Rattle.phase_base.specs.Members.{least, signal_phases, wait_phases}
 use Rattle.phase_registry.specs.Rosters.{Roster, roster}
 use Rattle.phase_core.specs.Slots.{KeptSlot}
 use Rattle.phase_core.specs.Cores.{CoreState, StandsFor}

@@ -1,14 +1,14 @@
 -- A phaser that keeps slots, or values alone.
 use Rattle.std.specs.Prelude.{◌≡◌, ℕ, ◌+◌, ◌-◌, ◌<◌, ◌≤◌, [], Some, None, true, false, drop, length, if◌then◌else◌}
 use Rattle.circular_buffer.specs.Buffer.{buffer}
-use Rattle.phase_history.specs.phase_accum.Operations.{Operation}
+use Rattle.phase_accum.specs.Operations.{Operation}
 use Rattle.phase_history.specs.Histories.{History}
 use Rattle.phase_history.specs.Refusals.{wait_refusal}
-use Rattle.phase_registry.specs.phase_base.Limits.{Limits}
-use Rattle.phase_registry.specs.phase_base.declared.entry.Entry.{Entry}
-use Rattle.phase_registry.specs.phase_base.declared.limits.TheConstants.{PHASES_MAX}
-use Rattle.phase_registry.specs.phase_base.Modes.{mode_waits}
-use Rattle.phase_registry.specs.phase_base.Members.{changed_at, entry_of, least, wait_phases, waited}
+use Rattle.phase_base.specs.Limits.{Limits}
+use Rattle.phase_base.specs.declared.entry.Entry.{Entry}
+use Rattle.phase_base.specs.declared.limits.TheConstants.{PHASES_MAX}
+use Rattle.phase_base.specs.Modes.{mode_waits}
+use Rattle.phase_base.specs.Members.{changed_at, entry_of, least, wait_phases, waited}
 use Rattle.phase_registry.specs.Rosters.{roster}
 use Rattle.phase_core.specs.Cores.{CoreState, StandsFor}
 use Rattle.phase_core.specs.declared.plain.Plain.{Plain}

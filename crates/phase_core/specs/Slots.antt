@@ -1,6 +1,6 @@
 -- What is kept of a phase.
 use Rattle.std.specs.Prelude.{ℕ, Option}
-use Rattle.phase_history.specs.phase_accum.declared.single.Single.{Single}
+use Rattle.phase_accum.specs.declared.single.Single.{Single}
 
 -- of one phase: the part of its sends, their number, and what its first signal named, as
 -- `named_in_phase` has it

@@ -1,9 +1,9 @@
 -- How many tasks are registered, and for which of them a phaser waits.
 use Rattle.std.specs.Prelude.{ℕ, List, length, map, unwrap_or, Bool, ◌&&◌, ◌++◌, nat_le, nat_lt, count_by, take, drop}
 use Rattle.std.specs.List.{filter}
-use Rattle.phase_registry.specs.phase_base.Modes.{mode_signals}
-use Rattle.phase_registry.specs.phase_base.Members.{Members, least, signal_phases, wait_phases}
-use Rattle.phase_registry.specs.phase_base.declared.member.Member.{Member}
+use Rattle.phase_base.specs.Modes.{mode_signals}
+use Rattle.phase_base.specs.Members.{Members, least, signal_phases, wait_phases}
+use Rattle.phase_base.specs.declared.member.Member.{Member}
 use Rattle.phase_history.specs.Histories.{History, members_of, done_of}
 use Rattle.phase_ring.specs.Standings.{takes_part, phase_for}
 use Rattle.phase_ring.specs.declared.role.Role.{Role}

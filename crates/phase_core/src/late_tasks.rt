@@ -3,7 +3,7 @@ ghost use Rattle.std.specs.Prelude.{◌≡◌};
 ghost use Rattle.std.specs.Iterator.{YieldsFirst, item_count};
 ghost use Rattle.phase_core.specs.Standings.{has_still_to, put_over};
 
-use phase_registry::phase_base::Member;
+use phase_base::Member;
 use phase_ring::Role;
 use std::iter::FusedIterator;
 use std::marker::Model;

@@ -6,7 +6,7 @@ ghost use Rattle.phase_core.specs.contracts.slot_core.SlotCore.{the_row as slots
 
 use crate::phaser_core::PhaserCore;
 use crate::slot_core::SlotCore;
-use phase_history::phase_accum::Accumulate;
+use phase_accum::Accumulate;
 
 impl<A: Accumulate> PhaserCore<A> {
     /// Lends the slots, which are there from now on.

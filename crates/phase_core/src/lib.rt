@@ -22,13 +22,8 @@ mod waiting;
 
 pub use late_tasks::LateTasks;
 pub use one_sends::{are_sends, hold_each, one_send};
-pub use phase_history;
 pub use phase_history::{
-    Call, Event, Got, GotBlock, NoTask, RegisterRefusal, Reply, SignalRefusal, WaitRefusal, laws,
-    phase_accum,
+    Call, Event, Got, GotBlock, NoTask, RegisterRefusal, Reply, SignalRefusal, WaitRefusal,
 };
-pub use phase_registry;
-pub use phase_registry::phase_base;
-pub use phase_ring;
 pub use phaser_core::PhaserCore;
 pub use standing::Standing;

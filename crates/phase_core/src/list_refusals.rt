@@ -1,15 +1,15 @@
 //! The refusals that the signals of a block meet in their phases.
 ghost use Rattle.std.specs.Prelude.{◌≡◌, ◌+◌, ◌≤◌, ℤ, List, None, IsSome, length, true};
 ghost use Rattle.phase_history.specs.Refusals.{phase_rows};
-ghost use Rattle.phase_registry.specs.phase_base.Lists.{first_row};
+ghost use Rattle.phase_base.specs.Lists.{first_row};
 ghost use Rattle.phase_ring.specs.Rings.{slot_at};
 ghost use Rattle.phase_core.specs.Blocks.{StandForLists, block_rows, count_at, named_at, IsOpen};
 ghost use Rattle.phase_core.specs.Admission.{are_new};
 
 use crate::refusal_rows;
+use phase_accum::{Accumulate, Pending, Single};
+use phase_base::Entry;
 use phase_history::SignalRefusal;
-use phase_history::phase_accum::{Accumulate, Pending, Single};
-use phase_registry::phase_base::Entry;
 use phase_ring::Board;
 
 /// The first refusal of a signal in the phase of the entry. `slowest` is the least wait phase of

@@ -1,15 +1,15 @@
 //! Tasks that join a phaser and leave it.
 ghost use Rattle.std.specs.Prelude.{◌≡◌, ◌≢◌, ◌↔◌, ◌∷◌, Some, None, Err, IsOk, IsSome, OnOk, OnErr, IfOk, IfErr};
-ghost use Rattle.phase_registry.specs.phase_base.Members.{entry_of};
+ghost use Rattle.phase_base.specs.Members.{entry_of};
 ghost use Rattle.phase_history.specs.declared.event.Event.TheVariants.{Registered, RegisteredNow, Dropped};
 ghost use Rattle.phase_history.specs.Histories.{History, done_of};
 ghost use Rattle.phase_history.specs.Refusals.{register_refusal, register_now_refusal};
 ghost use Rattle.phase_core.specs.Cores.{StandsFor};
 
 use crate::phaser_core::PhaserCore;
-use phase_history::phase_accum::Accumulate;
+use phase_accum::Accumulate;
+use phase_base::Mode;
 use phase_history::{NoTask, RegisterRefusal};
-use phase_registry::phase_base::Mode;
 
 impl<A: Accumulate> PhaserCore<A> {
     /// Registers the task `child`, in a mode that the mode of `parent` holds and at both phases of

@@ -1,11 +1,11 @@
 //! The sends of a block of phases, one a phase.
 ghost use Rattle.std.specs.Prelude.{◌≡◌, ◌↔◌, ◌≤◌, [], ◌∷◌, true, length, take, unsigned_abs};
 ghost use Rattle.std.specs.List.{All};
-ghost use Rattle.phase_history.specs.phase_accum.Parcels.{StandsForSends};
-ghost use Rattle.phase_history.specs.phase_accum.Sends.{AreSends, IsSend, value_max};
+ghost use Rattle.phase_accum.specs.Parcels.{StandsForSends};
+ghost use Rattle.phase_accum.specs.Sends.{AreSends, IsSend, value_max};
 ghost use Rattle.phase_core.specs.Blocks.{StandForLists, one_each};
 
-use phase_history::phase_accum::{Accumulate, Pending, VALUE_MAX};
+use phase_accum::{Accumulate, Pending, VALUE_MAX};
 
 // Whether the magnitude of each number is one of a value.
 fn are_small(values: &[i64]) -> bool

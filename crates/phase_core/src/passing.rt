@@ -1,6 +1,6 @@
 //! A signal and a wait in one.
 ghost use Rattle.std.specs.Prelude.{◌≡◌, ◌≢◌, ℤ, List, [], ◌∷◌, OnErr, IfOk, IfErr, Ok, Err, None};
-ghost use Rattle.phase_history.specs.phase_accum.Parcels.{StandsForSends};
+ghost use Rattle.phase_accum.specs.Parcels.{StandsForSends};
 ghost use Rattle.phase_history.specs.declared.event.Event.TheVariants.{Signalled};
 ghost use Rattle.phase_history.specs.Histories.{History};
 ghost use Rattle.phase_history.specs.Replies.{signal_reply, wait_reply};
@@ -8,7 +8,7 @@ ghost use Rattle.phase_core.specs.Cores.{StandsFor};
 ghost use Rattle.phase_core.specs.Passes.{after_both};
 
 use crate::phaser_core::PhaserCore;
-use phase_history::phase_accum::{Accumulate, Pending, Single};
+use phase_accum::{Accumulate, Pending, Single};
 use phase_history::{Got, SignalRefusal, WaitRefusal};
 
 impl<A: Accumulate> PhaserCore<A> {

@@ -1,6 +1,6 @@
 //! The phaser itself, for one thread: what it keeps, how it is made, and its readers.
 ghost use Rattle.std.specs.Prelude.{◌≡◌, ℕ, [], ◌∷◌, Some, is_some, IfOk};
-ghost use Rattle.phase_registry.specs.phase_base.Members.{entry_of, signal_phases, wait_phases, least};
+ghost use Rattle.phase_base.specs.Members.{entry_of, signal_phases, wait_phases, least};
 ghost use Rattle.phase_history.specs.declared.event.Event.TheVariants.{Made};
 ghost use Rattle.phase_history.specs.Histories.{History, done_of, top_of};
 ghost use Rattle.phase_registry.specs.Rosters.{next_after};
@@ -8,8 +8,8 @@ ghost use Rattle.phase_core.specs.Cores.{StandsFor};
 
 use crate::plain::Plain;
 use crate::slot_core::SlotCore;
-use phase_history::phase_accum::Accumulate;
-use phase_registry::phase_base::{Entry, Spec};
+use phase_accum::Accumulate;
+use phase_base::{Entry, Spec};
 use std::alloc::{AllocError, Global};
 use std::marker::Model;
 

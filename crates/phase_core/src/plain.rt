@@ -7,8 +7,8 @@ pub mod values;
 pub mod waiting;
 
 use circular_buffer::HeapCircularBuffer;
+use phase_base::{BOUND_MAX, PHASES_MAX};
 use phase_registry::Registry;
-use phase_registry::phase_base::{BOUND_MAX, PHASES_MAX};
 use std::alloc::{AllocError, Global};
 
 /// The values of the phases from the slowest waiter's on, while one task signals, each of its

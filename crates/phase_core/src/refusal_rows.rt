@@ -1,12 +1,12 @@
 //! The refusals of a signal and of a wait by a task with a given entry.
 ghost use Rattle.std.specs.Prelude.{◌≡◌, None, []};
 ghost use Rattle.phase_history.specs.Refusals.{signal_rows_before, phase_rows, wait_rows_at};
-ghost use Rattle.phase_registry.specs.phase_base.Lists.{first_row};
+ghost use Rattle.phase_base.specs.Lists.{first_row};
 ghost use Rattle.phase_core.specs.Rows.{refusal_of};
 
-use phase_history::phase_accum::Single;
+use phase_accum::Single;
+use phase_base::{Entry, Mode, Spec};
 use phase_history::{SignalRefusal, WaitRefusal};
-use phase_registry::phase_base::{Entry, Mode, Spec};
 use phase_ring::MergeRefusal;
 
 /// The first refusal of a signal of so many phases that does not look at its phases.

@@ -1,14 +1,14 @@
 //! Signals on a phaser, of one phase and of phases in a row.
 ghost use Rattle.std.specs.Prelude.{◌≡◌, ℕ, ℤ, List, [], ◌∷◌, OnErr, IfOk, IfErr, Ok, Err};
-ghost use Rattle.phase_history.specs.phase_accum.Parcels.{StandsForSends};
+ghost use Rattle.phase_accum.specs.Parcels.{StandsForSends};
 ghost use Rattle.phase_history.specs.Histories.{History};
 ghost use Rattle.phase_history.specs.Replies.{signal_reply, after_signal};
 ghost use Rattle.phase_core.specs.Cores.{StandsFor};
 ghost use Rattle.phase_core.specs.Blocks.{StandForLists};
 
 use crate::phaser_core::PhaserCore;
+use phase_accum::{Accumulate, Pending, Single};
 use phase_history::SignalRefusal;
-use phase_history::phase_accum::{Accumulate, Pending, Single};
 
 impl<A: Accumulate> PhaserCore<A> {
     /// Signals the task's phase, with the sends that it held and a single or none, and answers that

@@ -1,20 +1,20 @@
 //! Signals of a phaser that keeps values alone.
 ghost use Rattle.std.specs.Prelude.{◌≡◌, ℕ, ◌∷◌, None, Some, Ok, Err, true, ◌≤◌, IfSome, OnErr, length};
-ghost use Rattle.phase_history.specs.phase_accum.Sends.{AreSends};
+ghost use Rattle.phase_accum.specs.Sends.{AreSends};
 ghost use Rattle.phase_history.specs.Histories.{History};
 ghost use Rattle.phase_history.specs.Replies.{signal_reply, after_signal};
 ghost use Rattle.phase_history.specs.declared.event.Event.TheVariants.{Signalled};
-ghost use Rattle.phase_history.specs.phase_accum.declared.single.Single.{Single};
-ghost use Rattle.phase_registry.specs.phase_base.Members.{entry_of};
-ghost use Rattle.phase_registry.specs.phase_base.Modes.{mode_signals};
+ghost use Rattle.phase_accum.specs.declared.single.Single.{Single};
+ghost use Rattle.phase_base.specs.Members.{entry_of};
+ghost use Rattle.phase_base.specs.Modes.{mode_signals};
 ghost use Rattle.phase_core.specs.Blocks.{one_each};
 ghost use Rattle.phase_core.specs.Cores.{StandsFor};
 
 use crate::one_sends::hold_each;
 use crate::phaser_core::PhaserCore;
+use phase_accum::{Accumulate, Pending, Single};
+use phase_base::Entry;
 use phase_history::SignalRefusal;
-use phase_history::phase_accum::{Accumulate, Pending, Single};
-use phase_registry::phase_base::Entry;
 
 impl<A: Accumulate> PhaserCore<A> {
     // Keeps the values alone from now on, where no phase is kept and the task with this entry is

@@ -6,7 +6,7 @@ ghost use Rattle.phase_core.specs.Standings.{missing_of, slowest_of, standing_af
 
 use crate::late_tasks::LateTasks;
 use crate::phaser_core::PhaserCore;
-use phase_history::phase_accum::Accumulate;
+use phase_accum::Accumulate;
 use phase_registry::Registry;
 use phase_ring::Role;
 

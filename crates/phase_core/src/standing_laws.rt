@@ -1,8 +1,8 @@
 //! What it means to be missing, and to be slowest. The contract of each function is the law.
 ghost use Rattle.std.specs.Prelude.{◌≡◌, ◌+◌, ℕ, Some, true, length};
-ghost use Rattle.phase_registry.specs.phase_base.Lists.{is_in};
-ghost use Rattle.phase_registry.specs.phase_base.Members.{least, wait_phases};
-ghost use Rattle.phase_registry.specs.phase_base.declared.entry.Entry.{Entry};
+ghost use Rattle.phase_base.specs.Lists.{is_in};
+ghost use Rattle.phase_base.specs.Members.{least, wait_phases};
+ghost use Rattle.phase_base.specs.declared.entry.Entry.{Entry};
 ghost use Rattle.phase_history.specs.Histories.{History, members_of, done_of, IsSignaller, IsWaiter};
 ghost use Rattle.phase_core.specs.Standings.{missing_of, slowest_of, standing_after};
 

@@ -1,2 +1,1 @@
 mod TextLemmas
-pub use Rattle.phase_words.proofs as phase_words_lemmas

@@ -3,10 +3,10 @@ use Rattle.std.specs.Prelude.{◌≡◌, ◌⊎◌, ℕ, List, Option}
 use Rattle.graph_commands.specs.Ends.{EvalEnds}
 use Rattle.graph_commands.specs.FileJobs.{Known}
 use Rattle.graph_commands.specs.Folders.{known_by}
-use Rattle.graph_commands.specs.watched_io.States.{WriterState}
-use Rattle.graph_commands.specs.watched_io.declared.status.Status.{Status}
-use Rattle.graph_commands.specs.watched_io.declared.status.Status.TheVariants.{Done, Failed, GraphRefused, TooBig}
-use Rattle.graph_commands.specs.watched_io.declared.watched.Watched.{Watched}
+use Rattle.watched_io.specs.States.{WriterState}
+use Rattle.watched_io.specs.declared.status.Status.{Status}
+use Rattle.watched_io.specs.declared.status.Status.TheVariants.{Done, Failed, GraphRefused, TooBig}
+use Rattle.watched_io.specs.declared.watched.Watched.{Watched}
 use Rattle.phase_words.specs.RunLine.{Run}
 
 -- the statuses of an evaluation of a graph

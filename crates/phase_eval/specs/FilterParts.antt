@@ -1,6 +1,6 @@
 -- Parts of the list of a filter.
 use Rattle.std.specs.Prelude.{◌≤◌, ℤ, List, length}
-use Rattle.graph_commands.specs.stream_eval.Parts.{ArePart}
+use Rattle.stream_eval.specs.Parts.{ArePart}
 use Rattle.phase_eval.specs.declared.filtering.FilterPart.{FilterPart}
 
 -- the values of a part of a list

@@ -2,7 +2,7 @@
 use Rattle.std.specs.Prelude.{◌≡◌, ◌≤◌, ◌-◌, ℕ, ℤ, List, length, take, drop}
 use Rattle.std.specs.List.{flat_map}
 use Rattle.graph_commands.specs.OutputTexts.{value_text}
-use Rattle.graph_commands.specs.graph_lang.PlainLines.{ArePlainLines}
+use Rattle.graph_lang.specs.PlainLines.{ArePlainLines}
 use Rattle.phase_eval.specs.declared.texts.ReadPart.{ReadPart}
 use Rattle.phase_eval.specs.declared.texts.TextPart.{TextPart}
 

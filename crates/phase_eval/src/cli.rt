@@ -6,12 +6,12 @@ ghost use Rattle.phase_words.specs.CommandLine.{texts};
 ghost use Rattle.phase_words.specs.RunLine.{AreWorkersTaken, AsksWorkers, Run, run_of, workers_kinds_of};
 
 use crate::texts::ByThreads;
-use graph_commands::watched_io::{Files, Status, Streams};
 use graph_commands::{LooksBeside, Refuses, end, eval_by, look_by};
 use phase_words::{RunCall, answer, read_eval_words};
 use std::alloc::Global;
 use std::io::Write;
 use std::thread::Threads;
+use watched_io::{Files, Status, Streams};
 
 /// Runs the program on its words, those behind `phase eval`, of which one is `--workers`, and
 /// answers its status: `Done` where the graph was evaluated, or help or the version was shown,

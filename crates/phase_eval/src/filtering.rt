@@ -2,16 +2,16 @@
 ghost use Rattle.std.specs.Prelude.{◌≡◌, ◌≤◌, ◌<◌, length, IfSome, IfOk, None};
 ghost use Rattle.std.specs.List.{All, position_from};
 ghost use denote.Param.Send.{IsSync};
-ghost use Rattle.graph_commands.specs.stream_eval.Parts.{ArePart};
-ghost use Rattle.graph_commands.specs.stream_eval.stream_filters.Filter.{AreTaps, outputs};
-ghost use Rattle.graph_commands.specs.stream_lists.Ranges.{is_out_of_range};
+ghost use Rattle.stream_eval.specs.Parts.{ArePart};
+ghost use Rattle.stream_filters.specs.Filter.{AreTaps, outputs};
+ghost use Rattle.stream_lists.specs.Ranges.{is_out_of_range};
 ghost use Rattle.phase_eval.specs.FilterParts.{IsFilterPart};
 
 use crate::texts::{ByThreads, VALUES_MIN};
-use graph_commands::stream_eval::stream_filters::{FilterFault, Form, filter_list, laws};
-use graph_commands::stream_eval::{FilterLists, filter_part, parts_follow};
 use std::alloc::Global;
 use std::thread::{self, Threads};
+use stream_eval::{FilterLists, filter_part, parts_follow};
+use stream_filters::{FilterFault, Form, filter_list, laws};
 
 /// The outputs of a filter from one place up to another.
 #[derive(Drop)]

@@ -13,6 +13,4 @@ mod filtering;
 mod texts;
 
 pub use cli::run_cli;
-pub use graph_commands;
-pub use phase_words;
 pub use texts::ByThreads;

@@ -2,19 +2,19 @@
 ghost use Rattle.std.specs.Prelude.{◌≡◌, ◌≤◌, ◌<◌, ℕ, length, take, drop, IfSome, IfOk};
 ghost use Rattle.std.specs.List.{All, flat_map};
 ghost use denote.Param.Send.{IsSync};
-ghost use Rattle.graph_commands.specs.graph_lang.PlainLines.{ArePlainLines};
+ghost use Rattle.graph_lang.specs.PlainLines.{ArePlainLines};
 ghost use Rattle.graph_commands.specs.OutputTexts.{value_text};
 ghost use Rattle.graph_commands.specs.Puts.{bytes_of};
 ghost use Rattle.phase_eval.specs.Texts.{IsReadPart, IsTextPart};
 
-use graph_commands::graph_lang::{
+use graph_commands::{ValueTexts, write_values};
+use graph_lang::{
     SampleFault, SampleTexts, parts_have_samples, plain_part, samples_of, samples_with,
 };
-use graph_commands::watched_io::Watched;
-use graph_commands::{ValueTexts, write_values};
 use memchr::memchr;
 use std::alloc::Global;
 use std::thread::{self, Threads};
+use watched_io::Watched;
 
 /// The shortest part of a text that a thread reads, in bytes.
 const BYTES_MIN: usize = 262_144;

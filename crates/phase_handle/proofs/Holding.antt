@@ -1,9 +1,9 @@
 -- What stands in a place, and the histories that it stands for.
 use Rattle.std.proofs.Common.{◌≡◌, sym, subst}
 use Rattle.std.specs.Prelude.{Option, Some}
-use Rattle.phase_any.specs.phase_base.Limits.{Limits}
-use Rattle.phase_any.specs.phase_base.declared.operation.Op.{Op}
-use Rattle.phase_any.specs.phase_history.Histories.{History}
+use Rattle.phase_base.specs.Limits.{Limits}
+use Rattle.phase_base.specs.declared.operation.Op.{Op}
+use Rattle.phase_history.specs.Histories.{History}
 use Rattle.phase_any.specs.Phasers.{PhaserStandsFor}
 use Rattle.phase_handle.specs.Phasers.{Holds}
 use Rattle.phase_any.specs.declared.any_phaser.AnyPhaser.{AnyPhaser}

@@ -1,12 +1,12 @@
 -- The limits of a phaser.
 use Rattle.std.proofs.Common.{Option, Some, None, subst}
-use Rattle.phase_any.specs.phase_base.Limits.{Limits, AreLimits}
-use Rattle.phase_any.specs.phase_base.declared.operation.Op.{Op}
-use Rattle.phase_any.specs.phase_history.Histories.{History}
+use Rattle.phase_base.specs.Limits.{Limits, AreLimits}
+use Rattle.phase_base.specs.declared.operation.Op.{Op}
+use Rattle.phase_history.specs.Histories.{History}
 use Rattle.phase_any.specs.Phasers.{PhaserStandsFor}
 use Rattle.phase_handle.specs.Phasers.{Holds}
 use Rattle.phase_any.specs.declared.any_phaser.AnyPhaser.{AnyPhaser}
-use Rattle.phase_any.proofs.phase_history_lemmas.Standstill.{limits_of}
+use Rattle.phase_history.proofs.Standstill.{limits_of}
 use Rattle.phase_any.specs.declared.any_phaser.AnyPhaser.TheVariants as any
 
 -- the limits of a phaser are within theirs

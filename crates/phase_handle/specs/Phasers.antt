@@ -1,8 +1,8 @@
 -- The histories that what stands behind a handle stands for.
 use Rattle.std.specs.Prelude.{Option, Some, None}
-use Rattle.phase_any.specs.phase_base.Limits.{Limits}
-use Rattle.phase_any.specs.phase_base.declared.operation.Op.{Op}
-use Rattle.phase_any.specs.phase_history.Histories.{History}
+use Rattle.phase_base.specs.Limits.{Limits}
+use Rattle.phase_base.specs.declared.operation.Op.{Op}
+use Rattle.phase_history.specs.Histories.{History}
 use Rattle.phase_any.specs.Phasers.{PhaserStandsFor}
 use Rattle.phase_any.specs.declared.any_phaser.AnyPhaser.{AnyPhaser}
 

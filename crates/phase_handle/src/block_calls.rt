@@ -1,19 +1,19 @@
 //! Calls of the phaser of a handle on blocks of phases.
 ghost use Rattle.std.specs.Prelude.{◌≡◌, ◌≤◌, ℕ, Ok, IsSome, length, IfOk, OnErr};
-ghost use Rattle.phase_any.specs.phase_base.Limits.{Limits};
-ghost use Rattle.phase_any.specs.phase_accum.Sends.{AreSends};
-ghost use Rattle.phase_any.specs.phase_accum.Values.{value_by};
-ghost use Rattle.phase_any.specs.phase_history.Histories.{History};
-ghost use Rattle.phase_any.specs.phase_history.Phases.{stream_of};
-ghost use Rattle.phase_any.specs.phase_history.Replies.{signal_reply, after_signal, wait_block_reply, after_wait_block};
-ghost use Rattle.phase_any.specs.phase_core.Blocks.{one_each, written};
+ghost use Rattle.phase_base.specs.Limits.{Limits};
+ghost use Rattle.phase_accum.specs.Sends.{AreSends};
+ghost use Rattle.phase_accum.specs.Values.{value_by};
+ghost use Rattle.phase_history.specs.Histories.{History};
+ghost use Rattle.phase_history.specs.Phases.{stream_of};
+ghost use Rattle.phase_history.specs.Replies.{signal_reply, after_signal, wait_block_reply, after_wait_block};
+ghost use Rattle.phase_core.specs.Blocks.{one_each, written};
 ghost use Rattle.handle_numbers.specs.Blocks.{numbers_written};
 ghost use Rattle.phase_handle.specs.Phasers.{Holds};
 
 use crate::handle::Handle;
 use handle_numbers::{places, write_numbers};
-use phase_any::phase_accum::{Op, Outcome, Single};
-use phase_any::phase_core::{GotBlock, SignalRefusal, WaitRefusal};
+use phase_accum::{Op, Outcome, Single};
+use phase_core::{GotBlock, SignalRefusal, WaitRefusal};
 use std::alloc::{AllocError, Global};
 
 impl Handle {

@@ -1,14 +1,14 @@
 //! What C calls for blocks of phases.
 ghost use Rattle.std.specs.Prelude.{◌≡◌, ◌≢◌, ◌⊎◌, ℕ, Option, None, IsSome, Ok, length};
-ghost use Rattle.phase_any.specs.phase_base.Limits.{Limits};
-ghost use Rattle.phase_any.specs.phase_accum.Sends.{AreSends};
-ghost use Rattle.phase_any.specs.phase_accum.Values.{value_by};
-ghost use Rattle.phase_any.specs.phase_accum.declared.single.Single.{Single};
-ghost use Rattle.phase_any.specs.phase_history.declared.got.GotBlock.TheVariants as block;
-ghost use Rattle.phase_any.specs.phase_history.Histories.{History};
-ghost use Rattle.phase_any.specs.phase_history.Phases.{stream_of};
-ghost use Rattle.phase_any.specs.phase_history.Replies.{signal_reply, after_signal, wait_block_reply, after_wait_block};
-ghost use Rattle.phase_any.specs.phase_core.Blocks.{one_each};
+ghost use Rattle.phase_base.specs.Limits.{Limits};
+ghost use Rattle.phase_accum.specs.Sends.{AreSends};
+ghost use Rattle.phase_accum.specs.Values.{value_by};
+ghost use Rattle.phase_accum.specs.declared.single.Single.{Single};
+ghost use Rattle.phase_history.specs.declared.got.GotBlock.TheVariants as block;
+ghost use Rattle.phase_history.specs.Histories.{History};
+ghost use Rattle.phase_history.specs.Phases.{stream_of};
+ghost use Rattle.phase_history.specs.Replies.{signal_reply, after_signal, wait_block_reply, after_wait_block};
+ghost use Rattle.phase_core.specs.Blocks.{one_each};
 ghost use Rattle.handle_numbers.specs.Blocks.{numbers_written};
 ghost use Rattle.handle_numbers.specs.Numbers.{Names, signal_status, wait_block_status, phase_or};
 ghost use Rattle.phase_handle.specs.Phasers.{Holds};
@@ -17,8 +17,8 @@ ghost use Rattle.handle_numbers.specs.declared.numbers.TheConstants.{GOOD, ENDED
 use crate::handle::Handle;
 use handle_numbers::numbers::*;
 use handle_numbers::{signal_code, single_of, wait_code};
-use phase_any::phase_accum::Op;
-use phase_any::phase_core::{GotBlock, are_sends};
+use phase_accum::Op;
+use phase_core::{GotBlock, are_sends};
 use std::alloc::Global;
 
 /// Signals as many phases in a row as there are values, the first the task's, with one send each

@@ -1,16 +1,16 @@
 //! Calls of the phaser of a handle.
 ghost use Rattle.std.specs.Prelude.{◌≡◌, ◌≢◌, ◌≤◌, [], ◌∷◌, Some, None, IsSome, length, OnOk, OnErr, IfOk, IfErr};
-ghost use Rattle.phase_any.specs.phase_base.Limits.{Limits};
-ghost use Rattle.phase_any.specs.phase_base.declared.limits.TheConstants.{SENDS_MAX};
-ghost use Rattle.phase_any.specs.phase_accum.Sends.{AreSends};
-ghost use Rattle.phase_any.specs.phase_accum.Values.{value_by};
-ghost use Rattle.phase_any.specs.phase_history.Histories.{History};
-ghost use Rattle.phase_any.specs.phase_history.Replies.{signal_reply, after_signal, wait_reply, after_wait};
+ghost use Rattle.phase_base.specs.Limits.{Limits};
+ghost use Rattle.phase_base.specs.declared.limits.TheConstants.{SENDS_MAX};
+ghost use Rattle.phase_accum.specs.Sends.{AreSends};
+ghost use Rattle.phase_accum.specs.Values.{value_by};
+ghost use Rattle.phase_history.specs.Histories.{History};
+ghost use Rattle.phase_history.specs.Replies.{signal_reply, after_signal, wait_reply, after_wait};
 ghost use Rattle.phase_handle.specs.Phasers.{Holds};
 
 use crate::handle::Handle;
-use phase_any::phase_accum::{Op, Single};
-use phase_any::phase_core::{Got, SignalRefusal, WaitRefusal};
+use phase_accum::{Op, Single};
+use phase_core::{Got, SignalRefusal, WaitRefusal};
 use std::alloc::Global;
 
 impl Handle {

@@ -1,15 +1,15 @@
 //! What C calls.
 ghost use Rattle.std.specs.Prelude.{◌≡◌, ◌≢◌, ◌≤◌, ◌<◌, ◌⊎◌, [], ◌∷◌, ℕ, Option, Some, None, IsSome, Ok, length};
-ghost use Rattle.phase_any.specs.phase_base.Limits.{Limits, limits, IsBound};
-ghost use Rattle.phase_any.specs.phase_base.declared.limits.TheConstants.{BOUND_MAX, PHASES_MAX, SENDS_MAX};
-ghost use Rattle.phase_any.specs.phase_accum.Sends.{AreSends};
-ghost use Rattle.phase_any.specs.phase_accum.Values.{value_by};
-ghost use Rattle.phase_any.specs.phase_accum.declared.single.Single.{Single};
-ghost use Rattle.phase_any.specs.phase_accum.declared.outcome.Outcome.{Outcome};
-ghost use Rattle.phase_any.specs.phase_history.declared.event.Event.TheVariants.{Made};
-ghost use Rattle.phase_any.specs.phase_history.declared.got.Got.TheVariants as got;
-ghost use Rattle.phase_any.specs.phase_history.Histories.{History};
-ghost use Rattle.phase_any.specs.phase_history.Replies.{signal_reply, after_signal, wait_reply, after_wait};
+ghost use Rattle.phase_base.specs.Limits.{Limits, limits, IsBound};
+ghost use Rattle.phase_base.specs.declared.limits.TheConstants.{BOUND_MAX, PHASES_MAX, SENDS_MAX};
+ghost use Rattle.phase_accum.specs.Sends.{AreSends};
+ghost use Rattle.phase_accum.specs.Values.{value_by};
+ghost use Rattle.phase_accum.specs.declared.single.Single.{Single};
+ghost use Rattle.phase_accum.specs.declared.outcome.Outcome.{Outcome};
+ghost use Rattle.phase_history.specs.declared.event.Event.TheVariants.{Made};
+ghost use Rattle.phase_history.specs.declared.got.Got.TheVariants as got;
+ghost use Rattle.phase_history.specs.Histories.{History};
+ghost use Rattle.phase_history.specs.Replies.{signal_reply, after_signal, wait_reply, after_wait};
 ghost use Rattle.handle_numbers.specs.Numbers.{op_numbered, Names, signal_status, wait_status, value_number, phase_or};
 ghost use Rattle.phase_handle.specs.Phasers.{Holds};
 ghost use Rattle.handle_numbers.specs.declared.numbers.TheConstants.{GOOD, ENDED, NO_PHASER, HAS_PHASER, BAD_OPERATION, BAD_BOUND, BAD_PHASES, OUT_OF_MEMORY, BAD_SINGLE, BAD_VALUE, TOO_MANY_SENDS};
@@ -17,10 +17,10 @@ ghost use Rattle.handle_numbers.specs.declared.numbers.TheConstants.{GOOD, ENDED
 use crate::handle::Handle;
 use handle_numbers::numbers::*;
 use handle_numbers::{op_of, signal_code, single_of, value_code, wait_code};
+use phase_accum::Op;
 use phase_any::AnyPhaser;
-use phase_any::phase_accum::Op;
-use phase_any::phase_base::{SENDS_MAX, Spec, SpecFault};
-use phase_any::phase_core::{Got, are_sends};
+use phase_base::{SENDS_MAX, Spec, SpecFault};
+use phase_core::{Got, are_sends};
 use std::alloc::Global;
 
 /// Makes a phaser under an operation, whose signallers may be `bound` phases ahead of its slowest

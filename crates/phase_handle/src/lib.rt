@@ -20,4 +20,3 @@ pub use member_exports::{
     Standing, phase_phaser_drop, phase_phaser_register, phase_phaser_register_now,
     phase_phaser_view,
 };
-pub use phase_any::phase_core;

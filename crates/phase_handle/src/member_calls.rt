@@ -1,17 +1,17 @@
 //! Calls of the phaser of a handle by which tasks join and leave it.
 ghost use Rattle.std.specs.Prelude.{◌≡◌, ◌≢◌, ◌∷◌, Some, None, IsSome, OnOk, OnErr, IfOk, IfErr};
-ghost use Rattle.phase_any.specs.phase_base.Limits.{Limits};
-ghost use Rattle.phase_any.specs.phase_base.Members.{entry_of};
-ghost use Rattle.phase_any.specs.phase_history.declared.event.Event.TheVariants.{Registered, RegisteredNow, Dropped};
-ghost use Rattle.phase_any.specs.phase_history.Histories.{History, members_of, done_of};
-ghost use Rattle.phase_any.specs.phase_history.Refusals.{register_refusal, register_now_refusal, drop_refusal};
+ghost use Rattle.phase_base.specs.Limits.{Limits};
+ghost use Rattle.phase_base.specs.Members.{entry_of};
+ghost use Rattle.phase_history.specs.declared.event.Event.TheVariants.{Registered, RegisteredNow, Dropped};
+ghost use Rattle.phase_history.specs.Histories.{History, members_of, done_of};
+ghost use Rattle.phase_history.specs.Refusals.{register_refusal, register_now_refusal, drop_refusal};
 ghost use Rattle.phase_any.specs.Phasers.{next_task};
 ghost use Rattle.phase_handle.specs.Phasers.{Holds};
 
 use crate::handle::Handle;
-use phase_any::phase_accum::Op;
-use phase_any::phase_base::{Entry, Mode};
-use phase_any::phase_core::{NoTask, RegisterRefusal};
+use phase_accum::Op;
+use phase_base::{Entry, Mode};
+use phase_core::{NoTask, RegisterRefusal};
 use std::alloc::Global;
 
 impl Handle {

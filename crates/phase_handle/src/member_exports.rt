@@ -1,13 +1,13 @@
 //! What C calls to have tasks join and leave.
 ghost use Rattle.std.specs.Prelude.{◌≡◌, ◌≢◌, ◌⊎◌, ◌∷◌, Some, None, IsSome};
-ghost use Rattle.phase_any.specs.phase_base.Limits.{Limits};
-ghost use Rattle.phase_any.specs.phase_base.Members.{entry_of};
-ghost use Rattle.phase_any.specs.phase_base.declared.entry.Entry.{Entry};
-ghost use Rattle.phase_any.specs.phase_history.declared.event.Event.TheVariants.{Registered, RegisteredNow, Dropped};
-ghost use Rattle.phase_any.specs.phase_history.declared.refusal.RegisterRefusal.{RegisterRefusal};
-ghost use Rattle.phase_any.specs.phase_history.declared.refusal.NoTask.{NoTask};
-ghost use Rattle.phase_any.specs.phase_history.Histories.{History, members_of, done_of};
-ghost use Rattle.phase_any.specs.phase_history.Refusals.{register_refusal, register_now_refusal, drop_refusal};
+ghost use Rattle.phase_base.specs.Limits.{Limits};
+ghost use Rattle.phase_base.specs.Members.{entry_of};
+ghost use Rattle.phase_base.specs.declared.entry.Entry.{Entry};
+ghost use Rattle.phase_history.specs.declared.event.Event.TheVariants.{Registered, RegisteredNow, Dropped};
+ghost use Rattle.phase_history.specs.declared.refusal.RegisterRefusal.{RegisterRefusal};
+ghost use Rattle.phase_history.specs.declared.refusal.NoTask.{NoTask};
+ghost use Rattle.phase_history.specs.Histories.{History, members_of, done_of};
+ghost use Rattle.phase_history.specs.Refusals.{register_refusal, register_now_refusal, drop_refusal};
 ghost use Rattle.handle_numbers.specs.Numbers.{mode_numbered, mode_number, register_number};
 ghost use Rattle.phase_any.specs.Phasers.{next_task};
 ghost use Rattle.phase_handle.specs.Phasers.{Holds};
@@ -16,9 +16,9 @@ ghost use Rattle.handle_numbers.specs.declared.numbers.TheConstants.{GOOD, NO_PH
 use crate::handle::Handle;
 use handle_numbers::numbers::*;
 use handle_numbers::{mode_code, mode_of, register_code};
-use phase_any::phase_accum::Op;
-use phase_any::phase_base::Mode;
-use phase_any::phase_core::RegisterRefusal;
+use phase_accum::Op;
+use phase_base::Mode;
+use phase_core::RegisterRefusal;
 use std::alloc::Global;
 
 /// What a registered task stands at: its phases, counted from 0, and the number of its mode.

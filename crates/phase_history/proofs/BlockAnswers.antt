@@ -2,8 +2,8 @@
 use Rattle.std.proofs.Common.{◌≡◌, ℕ, ◌+◌, ◌-◌, ◌<◌, ◌≤◌, true, false, cond, eqb, ltb, min, ℤ, List, ◌++◌, Ok, Some, None, take, drop, refl, sym, ap, ◌∙◌, arith}
 use Rattle.std.specs.Prelude.{◌||◌}
 use Rattle.std.proofs.lemmas.Bool.{ltb-true, ltb-false, le-ltb, eqb-false, ne_eqb, eq-eqb, or_parts}
-use Rattle.phase_accum.specs.phase_base.Limits.{Limits}
-use Rattle.phase_accum.specs.phase_base.Members.{entry_of}
+use Rattle.phase_base.specs.Limits.{Limits}
+use Rattle.phase_base.specs.Members.{entry_of}
 use Rattle.phase_accum.specs.declared.outcome.Outcome.{Outcome}
 use Rattle.phase_history.specs.declared.got.GotBlock.TheVariants as got
 use Rattle.phase_history.specs.declared.refusal.WaitRefusal.TheVariants as wait

@@ -3,8 +3,8 @@ use Rattle.std.proofs.Common.{◌≡◌, ℕ, suc, ◌+◌, ◌<◌, ◌≤◌, 
 use Rattle.std.specs.Prelude.{◌||◌, is_some}
 use Rattle.std.proofs.lemmas.List.{append-nil, append_assoc}
 use Rattle.std.proofs.lemmas.Bool.{eqb-true, lt-leb, le-leb, lt-ltb, le-ltb, cases_lt}
-use Rattle.phase_accum.specs.phase_base.declared.entry.Entry.{Entry}
-use Rattle.phase_accum.specs.phase_base.Members.{Members, member, entry_of, changed_at, signalled}
+use Rattle.phase_base.specs.declared.entry.Entry.{Entry}
+use Rattle.phase_base.specs.Members.{Members, member, entry_of, changed_at, signalled}
 use Rattle.phase_accum.specs.declared.single.Single.{Single}
 use Rattle.phase_history.specs.declared.event.Event.TheVariants.{Signalled}
 use Rattle.phase_history.specs.Histories.{History, IsAlive, members_of, top_of, signal_phase}

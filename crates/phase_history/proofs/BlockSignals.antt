@@ -5,18 +5,18 @@ use Rattle.std.specs.Prelude.{not, is_some}
 use Rattle.std.specs.Option.{option_or}
 use Rattle.std.proofs.lemmas.List.{append-nil}
 use Rattle.std.proofs.lemmas.Bool.{ne_eqb, ltb-false, le-ltb, or_parts}
-use Rattle.phase_accum.specs.phase_base.Limits.{Limits}
-use Rattle.phase_accum.specs.phase_base.Modes.{mode_signals, is_single}
-use Rattle.phase_accum.specs.phase_base.declared.entry.Entry.{Entry}
+use Rattle.phase_base.specs.Limits.{Limits}
+use Rattle.phase_base.specs.Modes.{mode_signals, is_single}
+use Rattle.phase_base.specs.declared.entry.Entry.{Entry}
 use Rattle.phase_accum.specs.declared.single.Single.{Single}
 use Rattle.phase_history.specs.declared.event.Event.TheVariants.{Signalled}
 use Rattle.phase_history.specs.declared.refusal.SignalRefusal.{SignalRefusal}
 use Rattle.phase_history.specs.declared.refusal.SignalRefusal.TheVariants as signal
-use Rattle.phase_accum.specs.phase_base.Members.{entry_of, wait_phases, least, signalled}
+use Rattle.phase_base.specs.Members.{entry_of, wait_phases, least, signalled}
 use Rattle.phase_history.specs.Histories.{History, members_of, signal_phase}
 use Rattle.phase_history.specs.Phases.{sends_of_phase, named_in_phase, first_named, is_among}
 use Rattle.phase_history.specs.Refusals.{refusal_at, list_rows, phase_rows, is_bad_block, signal_rows, signal_rows_before, signal_refusal}
-use Rattle.phase_accum.specs.phase_base.Lists.{first_row}
+use Rattle.phase_base.specs.Lists.{first_row}
 use Rattle.phase_history.specs.Blocks.{one_by_one_refusal}
 use Rattle.phase_history.proofs.MemberLemmas.{entry_of-changed_same, wait_phases-signalled}
 use Rattle.phase_history.proofs.Steps.{member_entry_is}

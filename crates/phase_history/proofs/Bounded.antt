@@ -1,16 +1,16 @@
 -- How far the signallers are ahead of the waiters, and how far a task's signals are ahead of its waits.
 use Rattle.std.proofs.Common.{◌≡◌, ℕ, ◌+◌, ◌-◌, ◌<◌, ◌≤◌, Bool, true, false, not, ◌&&◌, eqb, leb, List, [], ◌∷◌, Option, Some, None, ℤ, length, max, unwrap_or, refl, sym, ap, subst, ◌∙◌, arith}
 use Rattle.std.proofs.lemmas.Bool.{leb-false, eqb-false}
-use Rattle.phase_accum.specs.phase_base.Limits.{Limits}
-use Rattle.phase_accum.specs.phase_base.Modes.{mode_signals, mode_waits}
-use Rattle.phase_accum.specs.phase_base.declared.mode.Mode.TheVariants.{Wait}
-use Rattle.phase_accum.specs.phase_base.declared.entry.Entry.{Entry}
-use Rattle.phase_accum.specs.phase_base.declared.member.Member.{Member}
+use Rattle.phase_base.specs.Limits.{Limits}
+use Rattle.phase_base.specs.Modes.{mode_signals, mode_waits}
+use Rattle.phase_base.specs.declared.mode.Mode.TheVariants.{Wait}
+use Rattle.phase_base.specs.declared.entry.Entry.{Entry}
+use Rattle.phase_base.specs.declared.member.Member.{Member}
 use Rattle.phase_accum.specs.declared.single.Single.{Single as SingleFn}
 use Rattle.phase_history.specs.declared.event.Event.{Event}
 use Rattle.phase_history.specs.declared.event.Event.TheVariants.{Made, Registered, RegisteredNow, Signalled, Waited, Dropped}
 use Rattle.phase_history.specs.declared.refusal.SignalRefusal.{SignalRefusal}
-use Rattle.phase_accum.specs.phase_base.Members.{Members, member, entry_of, wait_phases, least, signalled, waited}
+use Rattle.phase_base.specs.Members.{Members, member, entry_of, wait_phases, least, signalled, waited}
 use Rattle.phase_history.specs.Histories.{History, positions_of, members_of, top_of, done_of, member_entry, signal_phase, wait_phase, greatest_used}
 use Rattle.phase_history.specs.Refusals.{is_ahead, list_rows, signal_rows}
 use Rattle.phase_history.specs.Legal.{IsAccepted, IsLegal}

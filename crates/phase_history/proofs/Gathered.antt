@@ -8,7 +8,7 @@ use Rattle.phase_accum.specs.declared.single.Single.{Single}
 use Rattle.phase_history.specs.declared.event.Event.TheVariants.{Made, Registered, RegisteredNow, Signalled, Waited, Dropped}
 use Rattle.phase_history.specs.Histories.{History, signal_phase, phases_signalled}
 use Rattle.phase_history.specs.Phases.{list_in_phase, sends_of_phase}
-use Rattle.phase_accum.specs.phase_base.Lists.{is_distinct, is_in}
+use Rattle.phase_base.specs.Lists.{is_distinct, is_in}
 use Rattle.phase_history.specs.Sent.{sent_in, gathered, OnlySignalled}
 
 -- ---- one more signal

@@ -5,14 +5,14 @@ use Rattle.std.proofs.lemmas.List.FromFn.{length-map-range_with_len}
 use Rattle.std.proofs.lemmas.Option.{same_Some}
 use Rattle.std.proofs.lemmas.Bool.{eqb-true}
 use mathlib.Core.List.{IsPrefix}
-use Rattle.phase_accum.specs.phase_base.Limits.{Limits}
-use Rattle.phase_accum.specs.phase_base.Modes.{mode_waits}
-use Rattle.phase_accum.specs.phase_base.declared.mode.Mode.TheVariants.{Wait}
-use Rattle.phase_accum.specs.phase_base.declared.entry.Entry.{Entry}
+use Rattle.phase_base.specs.Limits.{Limits}
+use Rattle.phase_base.specs.Modes.{mode_waits}
+use Rattle.phase_base.specs.declared.mode.Mode.TheVariants.{Wait}
+use Rattle.phase_base.specs.declared.entry.Entry.{Entry}
 use Rattle.phase_accum.specs.declared.outcome.Outcome.{Outcome}
 use Rattle.phase_history.specs.declared.event.Event.{Event}
 use Rattle.phase_history.specs.declared.event.Event.TheVariants.{Made, Registered, RegisteredNow, Signalled, Waited, Dropped}
-use Rattle.phase_accum.specs.phase_base.Members.{member, entry_of, waited}
+use Rattle.phase_base.specs.Members.{member, entry_of, waited}
 use Rattle.phase_history.specs.Histories.{History, members_of, done_of, top_of, founder, entry_at, signal_phase, wait_phase, greatest_used, start_of, phases_waited}
 use Rattle.phase_history.specs.Phases.{value_of_phase, stream_of, received_by}
 use Rattle.phase_history.specs.Legal.{IsLegal}

@@ -29,4 +29,3 @@ pub mod BlockAnswers
 pub mod BlockSignals
 pub mod BlockLeaves
 pub mod Accepted
-pub use Rattle.phase_accum.proofs as phase_accum_lemmas

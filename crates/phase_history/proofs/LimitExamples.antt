@@ -1,7 +1,7 @@
 -- The definitions at the limits of members and of sends.
 use Rattle.std.proofs.Common.{◌≡◌, ℕ, zero, suc, [], ◌∷◌, Some, None, pos, replicate, refl}
-use Rattle.phase_accum.specs.phase_base.Limits.{limits}
-use Rattle.phase_accum.specs.phase_base.declared.mode.Mode.TheVariants.{Sig, Wait}
+use Rattle.phase_base.specs.Limits.{limits}
+use Rattle.phase_base.specs.declared.mode.Mode.TheVariants.{Sig, Wait}
 use Rattle.phase_accum.specs.declared.outcome.Outcome.TheVariants.{Value}
 use Rattle.phase_accum.specs.Values.{sum_value}
 use Rattle.phase_history.specs.declared.event.Event.TheVariants.{Made, Registered, Signalled, Dropped}

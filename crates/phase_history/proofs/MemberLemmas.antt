@@ -4,12 +4,12 @@ use Rattle.std.specs.Prelude.{is_some}
 use Rattle.std.specs.List.{filter}
 use Rattle.std.proofs.lemmas.Option.{same_Some}
 use Rattle.std.proofs.lemmas.Bool.{eqb-true, eq-eqb, ne_eqb}
-use Rattle.phase_accum.specs.phase_base.Modes.{mode_signals, mode_waits, holds}
-use Rattle.phase_accum.specs.phase_base.declared.mode.Mode.{Mode}
-use Rattle.phase_accum.specs.phase_base.declared.mode.Mode.TheVariants.{Sig, Wait, SigWait, Single}
-use Rattle.phase_accum.specs.phase_base.declared.entry.Entry.{Entry}
-use Rattle.phase_accum.specs.phase_base.declared.member.Member.{Member}
-use Rattle.phase_accum.specs.phase_base.Members.{Members, member, entry_of, changed_at, without, signal_phases, wait_phases, signalled, waited}
+use Rattle.phase_base.specs.Modes.{mode_signals, mode_waits, holds}
+use Rattle.phase_base.specs.declared.mode.Mode.{Mode}
+use Rattle.phase_base.specs.declared.mode.Mode.TheVariants.{Sig, Wait, SigWait, Single}
+use Rattle.phase_base.specs.declared.entry.Entry.{Entry}
+use Rattle.phase_base.specs.declared.member.Member.{Member}
+use Rattle.phase_base.specs.Members.{Members, member, entry_of, changed_at, without, signal_phases, wait_phases, signalled, waited}
 use Rattle.phase_history.proofs.Each.{Each}
 
 -- what holds of each member holds of the one that is looked up

@@ -6,7 +6,7 @@ use Rattle.std.proofs.lemmas.Bool.{eqb-true, eq-eqb, and_parts, not-true, or_cas
 use Rattle.std.proofs.Math.Bool.{or-true}
 use Rattle.phase_history.specs.Histories.{History}
 use Rattle.phase_history.specs.Phases.{sends_of_phase}
-use Rattle.phase_accum.specs.phase_base.Lists.{is_distinct, is_in}
+use Rattle.phase_base.specs.Lists.{is_distinct, is_in}
 use Rattle.phase_history.specs.Sent.{sent_in, gathered, OnlySignalled, OneHasSent}
 use Rattle.phase_history.proofs.Gathered.{sends_of_phase-alone}
 use Rattle.phase_history.proofs.Sendings.{sent_in-none}

@@ -11,7 +11,7 @@ use Rattle.phase_history.specs.declared.event.Event.TheVariants.{Made, Registere
 use Rattle.phase_history.specs.Histories.{History, IsBeginning, signal_phase, wait_phase, phases_signalled, phases_waited, has_dropped}
 use Rattle.phase_history.specs.Phases.{list_in_phase, stream_of, received_by}
 use Rattle.phase_history.specs.Others.{is_by, events_of, phases_of_signal, phases_of_wait, OthersCame}
-use Rattle.phase_accum.specs.phase_base.Lists.{is_in}
+use Rattle.phase_base.specs.Lists.{is_in}
 use Rattle.phase_history.specs.Sent.{sent_by, sent_in, gathered}
 
 -- an event in front that is not the task's

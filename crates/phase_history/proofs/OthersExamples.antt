@@ -4,13 +4,13 @@ use Rattle.std.proofs.Common.{◌≡◌, ◌||◌, ℕ, ℤ, pos, List, [], ◌�
 use Rattle.std.specs.Prelude.{Ok, Err, Result, is_some}
 use Rattle.std.specs.List.{sum_by}
 use Rattle.std.proofs.lemmas.Bool.{eqb-true}
-use Rattle.phase_accum.specs.phase_base.declared.mode.Mode.TheVariants.{Sig, Wait}
+use Rattle.phase_base.specs.declared.mode.Mode.TheVariants.{Sig, Wait}
 use Rattle.phase_history.specs.declared.event.Event.TheVariants.{Made, Registered, RegisteredNow, Signalled, Waited, Dropped}
 use Rattle.phase_history.specs.declared.refusal.NoTask.{NoTask}
 use Rattle.phase_history.specs.Histories.{History, founder, entry_at, phases_signalled, phases_waited}
 use Rattle.phase_history.specs.Replies.{after_register, after_drop}
 use Rattle.phase_history.specs.Others.{is_by, events_of, children_in, phases_of_signal, phases_of_wait, IsUsed, OnlyUsed, OthersCame}
-use Rattle.phase_accum.specs.phase_base.Lists.{is_distinct, is_in}
+use Rattle.phase_base.specs.Lists.{is_distinct, is_in}
 
 -- a list of one send
 abbrev pub one : ℕ → List ℤ

@@ -8,14 +8,14 @@ use Rattle.std.proofs.lemmas.Option.{same_Some}
 use Rattle.std.proofs.lemmas.Bool.{eqb-true, ne_eqb}
 use Rattle.std.proofs.Math.Seq.{take-add}
 use mathlib.Core.List.{IsPrefix}
-use Rattle.phase_accum.specs.phase_base.Limits.{Limits}
-use Rattle.phase_accum.specs.phase_base.Modes.{mode_waits}
-use Rattle.phase_accum.specs.phase_base.declared.mode.Mode.TheVariants.{Wait}
-use Rattle.phase_accum.specs.phase_base.declared.entry.Entry.{Entry}
+use Rattle.phase_base.specs.Limits.{Limits}
+use Rattle.phase_base.specs.Modes.{mode_waits}
+use Rattle.phase_base.specs.declared.mode.Mode.TheVariants.{Wait}
+use Rattle.phase_base.specs.declared.entry.Entry.{Entry}
 use Rattle.phase_accum.specs.declared.outcome.Outcome.{Outcome}
 use Rattle.phase_history.specs.declared.event.Event.{Event}
 use Rattle.phase_history.specs.declared.event.Event.TheVariants.{Made, Registered, RegisteredNow, Signalled, Waited, Dropped}
-use Rattle.phase_accum.specs.phase_base.Members.{member, entry_of, signalled, waited}
+use Rattle.phase_base.specs.Members.{member, entry_of, signalled, waited}
 use Rattle.phase_history.specs.Histories.{History, members_of, done_of, top_of, founder, entry_at, signal_phase, wait_phase, greatest_used, start_of, phases_signalled, phases_waited, has_dropped}
 use Rattle.phase_history.specs.Phases.{stream_of, received_by}
 use Rattle.phase_history.specs.Legal.{IsLegal}

@@ -1,16 +1,16 @@
 -- What it means for a call that it is not refused.
 use Rattle.std.proofs.Common.{◌≡◌, ℕ, ◌<◌, Bool, true, false, cond, List, [], ◌∷◌, Option, Some, None, ℤ, refl}
 use Rattle.std.proofs.lemmas.Bool.{leb-false, not-false}
-use Rattle.phase_accum.specs.phase_base.Limits.{Limits}
-use Rattle.phase_accum.specs.phase_base.Modes.{mode_signals, mode_waits, holds}
-use Rattle.phase_accum.specs.phase_base.declared.mode.Mode.{Mode}
-use Rattle.phase_accum.specs.phase_base.declared.entry.Entry.{Entry}
+use Rattle.phase_base.specs.Limits.{Limits}
+use Rattle.phase_base.specs.Modes.{mode_signals, mode_waits, holds}
+use Rattle.phase_base.specs.declared.mode.Mode.{Mode}
+use Rattle.phase_base.specs.declared.entry.Entry.{Entry}
 use Rattle.phase_accum.specs.declared.single.Single.{Single}
-use Rattle.phase_accum.specs.phase_base.Members.{entry_of}
+use Rattle.phase_base.specs.Members.{entry_of}
 use Rattle.phase_history.specs.Histories.{History, positions_of, members_of, greatest_used}
 use Rattle.phase_history.proofs.Each.{Each}
 use Rattle.phase_history.specs.Refusals.{refusal_at, register_rows, register_refusal, signal_rows, signal_refusal, wait_rows, wait_refusal}
-use Rattle.phase_accum.specs.phase_base.Lists.{first_row}
+use Rattle.phase_base.specs.Lists.{first_row}
 
 -- the table answers nothing where none of its rows applies
 pub no_row : {R : Type 0} (rows : List (Bool × R)) → first_row rows ≡ None → Each (λ (row : Bool × R). row.0 ≡ false) rows

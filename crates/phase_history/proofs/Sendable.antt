@@ -1,6 +1,6 @@
 -- What a task has sent can be sent, as each of its signals was accepted.
 use Rattle.std.proofs.Common.{◌≡◌, ℕ, true, false, cond, eqb, List, [], ◌∷◌, ◌++◌, ℤ, sym, subst}
-use Rattle.phase_accum.specs.phase_base.Limits.{Limits}
+use Rattle.phase_base.specs.Limits.{Limits}
 use Rattle.phase_history.specs.declared.event.Event.TheVariants.{Made, Registered, RegisteredNow, Signalled, Waited, Dropped}
 use Rattle.phase_history.specs.Histories.{History}
 use Rattle.phase_history.specs.Legal.{IsLegal, AreLists}

@@ -2,8 +2,8 @@
 -- by hand.
 use Rattle.std.proofs.Common.{◌≡◌, ◌||◌, pos, [], ◌∷◌, Bool, true, false, eqb, Some, None, refl, sym, ap, arith}
 use Rattle.std.proofs.lemmas.Option.{same_Some}
-use Rattle.phase_accum.specs.phase_base.declared.entry.Entry.{Entry}
-use Rattle.phase_accum.specs.phase_base.declared.mode.Mode.TheVariants.{Sig, Wait}
+use Rattle.phase_base.specs.declared.entry.Entry.{Entry}
+use Rattle.phase_base.specs.declared.mode.Mode.TheVariants.{Sig, Wait}
 use Rattle.phase_accum.specs.Exchanges.{Exchanges}
 use Rattle.phase_accum.specs.declared.outcome.Outcome.TheVariants.{Value}
 use Rattle.phase_accum.specs.declared.single.Single.TheVariants.{Neg, Halve}

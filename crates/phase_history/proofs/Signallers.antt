@@ -3,13 +3,13 @@ use Rattle.std.proofs.Common.{◌≡◌, ℕ, ◌+◌, ◌<◌, ◌≤◌, true,
 use Rattle.std.specs.Prelude.{is_some, IsSome}
 use Rattle.std.proofs.lemmas.Bool.{eqb-true, ne_eqb, eq-eqb, cases_lt}
 use Rattle.std.proofs.lemmas.Option.{same_Some}
-use Rattle.phase_accum.specs.phase_base.Limits.{Limits}
-use Rattle.phase_accum.specs.phase_base.Modes.{mode_signals}
-use Rattle.phase_accum.specs.phase_base.declared.mode.Mode.TheVariants.{Wait}
-use Rattle.phase_accum.specs.phase_base.declared.entry.Entry.{Entry}
-use Rattle.phase_accum.specs.phase_base.declared.member.Member.{Member}
+use Rattle.phase_base.specs.Limits.{Limits}
+use Rattle.phase_base.specs.Modes.{mode_signals}
+use Rattle.phase_base.specs.declared.mode.Mode.TheVariants.{Wait}
+use Rattle.phase_base.specs.declared.entry.Entry.{Entry}
+use Rattle.phase_base.specs.declared.member.Member.{Member}
 use Rattle.phase_history.specs.declared.event.Event.TheVariants.{Made, Registered, RegisteredNow, Signalled, Waited, Dropped}
-use Rattle.phase_accum.specs.phase_base.Members.{Members, member, entry_of, signal_phases, changed_at, without, least, signalled, waited}
+use Rattle.phase_base.specs.Members.{Members, member, entry_of, signal_phases, changed_at, without, least, signalled, waited}
 use Rattle.phase_history.specs.Histories.{History, positions_of, members_of, signal_phase, wait_phase, done_of, top_of, greatest_used, start_of, founder, entry_at, phases_signalled, has_dropped, HasNoSignaller}
 use Rattle.phase_history.specs.Legal.{IsLegal}
 use Rattle.phase_history.specs.Others.{IsUsed}

@@ -4,26 +4,26 @@ use Rattle.std.specs.Prelude.{is_some, ◌⊎◌}
 use Rattle.std.specs.List.{filter}
 use Rattle.std.proofs.lemmas.Option.{same_Some}
 use Rattle.std.proofs.lemmas.Bool.{eqb-true, ne_eqb, eq-eqb, lt-leb, le-ltb, ltb-false, cases_lt}
-use Rattle.phase_accum.specs.phase_base.Limits.{Limits, AreLimits}
-use Rattle.phase_accum.specs.phase_base.Modes.{mode_signals, mode_waits}
-use Rattle.phase_accum.specs.phase_base.declared.mode.Mode.{Mode}
-use Rattle.phase_accum.specs.phase_base.declared.mode.Mode.TheVariants.{Wait, Sig, SigWait, Single}
-use Rattle.phase_accum.specs.phase_base.declared.entry.Entry.{Entry}
-use Rattle.phase_accum.specs.phase_base.declared.member.Member.{Member}
+use Rattle.phase_base.specs.Limits.{Limits, AreLimits}
+use Rattle.phase_base.specs.Modes.{mode_signals, mode_waits}
+use Rattle.phase_base.specs.declared.mode.Mode.{Mode}
+use Rattle.phase_base.specs.declared.mode.Mode.TheVariants.{Wait, Sig, SigWait, Single}
+use Rattle.phase_base.specs.declared.entry.Entry.{Entry}
+use Rattle.phase_base.specs.declared.member.Member.{Member}
 use Rattle.phase_history.specs.declared.event.Event.{Event}
 use Rattle.phase_history.specs.declared.event.Event.TheVariants.{Made, Registered, RegisteredNow, Signalled, Waited, Dropped}
-use Rattle.phase_accum.specs.phase_base.Members.{Members, member, entry_of, changed_at, signal_phases, wait_phases, least, lesser, signalled, waited}
+use Rattle.phase_base.specs.Members.{Members, member, entry_of, changed_at, signal_phases, wait_phases, least, lesser, signalled, waited}
 use Rattle.phase_history.specs.Histories.{History, IsAlive, signal_phase, positions_of, members_of, top_of, done_of, greatest_used}
 use Rattle.phase_history.specs.declared.refusal.SignalRefusal.TheVariants as signal
 use Rattle.phase_history.specs.declared.refusal.WaitRefusal.TheVariants as wait
 use Rattle.phase_history.specs.Refusals.{refusal_at, is_ahead, differs, list_rows, signal_rows, wait_rows, signal_refusal, wait_refusal}
-use Rattle.phase_accum.specs.phase_base.Lists.{first_row}
+use Rattle.phase_base.specs.Lists.{first_row}
 use Rattle.phase_history.specs.Laws.{MaySignal, MayWait, GoesOn, GoesOnPlainly}
 use Rattle.phase_history.specs.Sent.{NamesAll}
 use Rattle.phase_history.specs.Phases.{sends_of_phase, named_in_phase, list_in_phase, first_named}
 use Rattle.phase_history.specs.declared.refusal.SignalRefusal.{SignalRefusal}
 use Rattle.phase_accum.specs.declared.single.Single.{Single as SingleFn}
-use Rattle.phase_accum.specs.phase_base.declared.limits.TheConstants.{SENDS_MAX}
+use Rattle.phase_base.specs.declared.limits.TheConstants.{SENDS_MAX}
 use Rattle.phase_history.specs.Legal.{IsAccepted, IsLegal}
 use Rattle.phase_history.proofs.Each.{Each, Each-from, Each-push, Each-filter, Each-of_picked, least_low}
 use Rattle.phase_history.proofs.MemberLemmas.{Each-entry, Each-changed, holds_waits}

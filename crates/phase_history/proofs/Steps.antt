@@ -2,18 +2,18 @@
 use Rattle.std.proofs.Common.{◌≡◌, ℕ, ◌+◌, ◌<◌, ◌≤◌, Bool, true, false, not, eqb, leb, List, [], ◌∷◌, ◌++◌, Option, Some, None, ℤ, length, max, unwrap_or, refl, sym, ap, subst, ◌∙◌, arith}
 use Rattle.std.proofs.lemmas.List.{append-nil}
 use Rattle.std.proofs.lemmas.Bool.{ne_eqb, lt-leb}
-use Rattle.phase_accum.specs.phase_base.Limits.{Limits}
-use Rattle.phase_accum.specs.phase_base.Modes.{mode_signals, mode_waits}
-use Rattle.phase_accum.specs.phase_base.declared.mode.Mode.{Mode}
-use Rattle.phase_accum.specs.phase_base.declared.mode.Mode.TheVariants.{Wait}
-use Rattle.phase_accum.specs.phase_base.declared.entry.Entry.{Entry}
-use Rattle.phase_accum.specs.phase_base.declared.member.Member.{Member}
+use Rattle.phase_base.specs.Limits.{Limits}
+use Rattle.phase_base.specs.Modes.{mode_signals, mode_waits}
+use Rattle.phase_base.specs.declared.mode.Mode.{Mode}
+use Rattle.phase_base.specs.declared.mode.Mode.TheVariants.{Wait}
+use Rattle.phase_base.specs.declared.entry.Entry.{Entry}
+use Rattle.phase_base.specs.declared.member.Member.{Member}
 use Rattle.phase_accum.specs.declared.outcome.Outcome.{Outcome}
 use Rattle.phase_accum.specs.declared.single.Single.{Single}
 use Rattle.phase_accum.specs.Values.{applied}
 use Rattle.phase_history.specs.declared.event.Event.{Event}
 use Rattle.phase_history.specs.declared.event.Event.TheVariants.{Made, Registered, RegisteredNow, Signalled, Waited, Dropped}
-use Rattle.phase_accum.specs.phase_base.Members.{Members, member, entry_of, signal_phases, least, signalled, waited}
+use Rattle.phase_base.specs.Members.{Members, member, entry_of, signal_phases, least, signalled, waited}
 use Rattle.phase_history.specs.Histories.{History, Positions, positions_of, members_of, top_of, done_of, done_at, founder, entry_at, member_entry, signal_phase, wait_phase, greatest_used}
 use Rattle.phase_history.specs.Phases.{sends_of_phase, named_in_phase, value_of_phase, list_in_phase, first_named, is_among, single_of_phase}
 use Rattle.phase_history.specs.Legal.{IsAccepted, IsLegal}

@@ -1,9 +1,9 @@
 -- No phase past the limit is signalled.
 use Rattle.std.proofs.Common.{◌≡◌, ◌+◌, ◌<◌, ◌≤◌, Bool, false, List, [], ◌∷◌, Option, max, length, ℤ, ap, arith}
 use Rattle.std.proofs.lemmas.Bool.{leb-false}
-use Rattle.phase_accum.specs.phase_base.Limits.{Limits}
-use Rattle.phase_accum.specs.phase_base.declared.entry.Entry.{Entry}
-use Rattle.phase_accum.specs.phase_base.Members.{member, entry_of, signalled}
+use Rattle.phase_base.specs.Limits.{Limits}
+use Rattle.phase_base.specs.declared.entry.Entry.{Entry}
+use Rattle.phase_base.specs.Members.{member, entry_of, signalled}
 use Rattle.phase_accum.specs.declared.single.Single.{Single}
 use Rattle.phase_history.specs.declared.event.Event.TheVariants.{Made, Registered, RegisteredNow, Signalled, Waited, Dropped}
 use Rattle.phase_history.specs.declared.refusal.SignalRefusal.{SignalRefusal}

@@ -2,16 +2,16 @@
 use Rattle.std.proofs.Common.{◌≡◌, ℕ, ◌<◌, ◌≤◌, true, false, cond, eqb, List, [], ◌∷◌, ◌++◌, Option, Some, None, length, inl, inr, refl, sym, ap, subst, ◌∙◌, arith}
 use Rattle.std.specs.Prelude.{is_some}
 use Rattle.std.proofs.lemmas.Bool.{eqb-true, eq-eqb, ne_eqb, cases_lt}
-use Rattle.phase_accum.specs.phase_base.Limits.{Limits}
-use Rattle.phase_accum.specs.phase_base.declared.mode.Mode.TheVariants.{Wait}
-use Rattle.phase_accum.specs.phase_base.declared.entry.Entry.{Entry}
-use Rattle.phase_accum.specs.phase_base.Members.{entry_of, signalled, waited}
+use Rattle.phase_base.specs.Limits.{Limits}
+use Rattle.phase_base.specs.declared.mode.Mode.TheVariants.{Wait}
+use Rattle.phase_base.specs.declared.entry.Entry.{Entry}
+use Rattle.phase_base.specs.Members.{entry_of, signalled, waited}
 use Rattle.phase_history.specs.declared.event.Event.{Event}
 use Rattle.phase_history.specs.declared.event.Event.TheVariants.{Made, Registered, RegisteredNow, Signalled, Waited, Dropped}
 use Rattle.phase_history.specs.Histories.{History, IsBeginning, members_of, entry_at, signal_phase, wait_phase, done_of, greatest_used, start_of, IsAlive}
 use Rattle.phase_history.specs.Legal.{IsLegal, IsAccepted}
 use Rattle.phase_history.specs.Others.{is_by, events_of, IsUsed, OnlyUsed}
-use Rattle.phase_accum.specs.phase_base.Lists.{is_in}
+use Rattle.phase_base.specs.Lists.{is_in}
 use Rattle.phase_history.proofs.MemberLemmas.{entry_of-push_old, entry_of-changed_other, entry_of-without_other}
 use Rattle.phase_history.proofs.Refused.{registers_from, passes_from, signals_from, waits_from}
 use Rattle.phase_history.proofs.Streams.{legal_rest}

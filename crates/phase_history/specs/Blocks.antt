@@ -2,7 +2,7 @@
 -- calls can be made.
 use Rattle.std.specs.Prelude.{◌≡◌, ℕ, ◌+◌, ◌-◌, ◌≤◌, ℤ, min, List, [], ◌∷◌, ◌++◌, Option, None, slice_range}
 use Rattle.std.specs.Option.{option_or}
-use Rattle.phase_accum.specs.phase_base.Limits.{Limits}
+use Rattle.phase_base.specs.Limits.{Limits}
 use Rattle.phase_accum.specs.Singles.{CanBeNamed}
 use Rattle.phase_accum.specs.declared.outcome.Outcome.{Outcome}
 use Rattle.phase_accum.specs.declared.single.Single.{Single}

@@ -1,13 +1,13 @@
 -- A history is the list of the events on a phaser, the newest first: `event ∷ before` is a
 -- history whose last event came after those of `before`, and `more ++ before` a longer one.
 use Rattle.std.specs.Prelude.{◌≡◌, ℕ, ◌+◌, List, [], ◌∷◌, ◌++◌, Option, Some, None, IsSome, length, max, unwrap_or, Bool, true, false, if◌then◌else◌, ◌==◌}
-use Rattle.phase_accum.specs.phase_base.Modes.{mode_signals, mode_waits}
-use Rattle.phase_accum.specs.phase_base.declared.mode.Mode.{Mode}
-use Rattle.phase_accum.specs.phase_base.declared.mode.Mode.TheVariants.{Wait, Single}
-use Rattle.phase_accum.specs.phase_base.declared.entry.Entry.{Entry}
+use Rattle.phase_base.specs.Modes.{mode_signals, mode_waits}
+use Rattle.phase_base.specs.declared.mode.Mode.{Mode}
+use Rattle.phase_base.specs.declared.mode.Mode.TheVariants.{Wait, Single}
+use Rattle.phase_base.specs.declared.entry.Entry.{Entry}
 use Rattle.phase_history.specs.declared.event.Event.{Event}
 use Rattle.phase_history.specs.declared.event.Event.TheVariants.{Made, Registered, RegisteredNow, Signalled, Waited, Dropped}
-use Rattle.phase_accum.specs.phase_base.Members.{Members, member, entry_of, changed_at, without, signal_phases, least, signalled, waited}
+use Rattle.phase_base.specs.Members.{Members, member, entry_of, changed_at, without, signal_phases, least, signalled, waited}
 
 -- a list of events, the newest first
 abbrev pub History : Type 0

@@ -1,14 +1,14 @@
 -- What the laws of histories say.
 use Rattle.std.specs.Prelude.{◌≡◌, ℕ, ◌+◌, ◌<◌, ◌≤◌, ℤ, List, [], ◌∷◌, ◌++◌, ◌⊎◌, ◌≢◌, Option, None, Some, false, slice_range}
-use Rattle.phase_accum.specs.phase_base.declared.entry.Entry.{Entry}
+use Rattle.phase_base.specs.declared.entry.Entry.{Entry}
 use Rattle.phase_accum.specs.declared.outcome.Outcome.{Outcome}
-use Rattle.phase_accum.specs.phase_base.Limits.{Limits}
+use Rattle.phase_base.specs.Limits.{Limits}
 use Rattle.phase_accum.specs.declared.single.Single.{Single}
 use Rattle.phase_history.specs.declared.event.Event.TheVariants.{Waited}
 use Rattle.phase_history.specs.declared.refusal.SignalRefusal.TheVariants as signal
 use Rattle.phase_history.specs.declared.refusal.WaitRefusal.TheVariants as wait
 use Rattle.phase_history.specs.Refusals.{signal_refusal, wait_refusal}
-use Rattle.phase_accum.specs.phase_base.Members.{entry_of}
+use Rattle.phase_base.specs.Members.{entry_of}
 use Rattle.phase_history.specs.Histories.{History, IsSignaller, IsWaiter, members_of, wait_phase, done_of, start_of, phases_signalled, phases_waited, has_dropped}
 use Rattle.phase_history.specs.Phases.{stream_of, received_by}
 

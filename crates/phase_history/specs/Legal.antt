@@ -1,7 +1,7 @@
 -- Which lists of events are histories that the calls of a phaser can make.
 use Rattle.std.specs.Prelude.{◌≡◌, ◌+◌, ◌≤◌, ℤ, List, [], ◌∷◌, None, length}
-use Rattle.phase_accum.specs.phase_base.Limits.{Limits, AreLimits}
-use Rattle.phase_accum.specs.phase_base.declared.limits.TheConstants.{SENDS_MAX}
+use Rattle.phase_base.specs.Limits.{Limits, AreLimits}
+use Rattle.phase_base.specs.declared.limits.TheConstants.{SENDS_MAX}
 use Rattle.phase_accum.specs.Values.{AreSends}
 use Rattle.phase_accum.specs.Singles.{CanBeNamed}
 use Rattle.phase_history.specs.declared.event.Event.{Event}

@@ -1,13 +1,13 @@
 -- The refusals of the calls, each a table in the order in which its rows are checked: the first
 -- row that applies is the answer.
 use Rattle.std.specs.Prelude.{ℕ, ℤ, ◌+◌, List, [], ◌∷◌, ◌++◌, Option, Some, None, Bool, false, not, ◌&&◌, ◌||◌, length, is_some, if◌then◌else◌, ◌==◌, nat_le, nat_lt}
-use Rattle.phase_accum.specs.phase_base.Limits.{Limits}
-use Rattle.phase_accum.specs.phase_base.Lists.{first_row}
-use Rattle.phase_accum.specs.phase_base.declared.limits.TheConstants.{MEMBERS_MAX, SENDS_MAX}
-use Rattle.phase_accum.specs.phase_base.Modes.{holds, mode_signals, mode_waits, is_single}
-use Rattle.phase_accum.specs.phase_base.declared.mode.Mode.{Mode}
-use Rattle.phase_accum.specs.phase_base.declared.mode.Mode.TheVariants.{Wait}
-use Rattle.phase_accum.specs.phase_base.declared.entry.Entry.{Entry}
+use Rattle.phase_base.specs.Limits.{Limits}
+use Rattle.phase_base.specs.Lists.{first_row}
+use Rattle.phase_base.specs.declared.limits.TheConstants.{MEMBERS_MAX, SENDS_MAX}
+use Rattle.phase_base.specs.Modes.{holds, mode_signals, mode_waits, is_single}
+use Rattle.phase_base.specs.declared.mode.Mode.{Mode}
+use Rattle.phase_base.specs.declared.mode.Mode.TheVariants.{Wait}
+use Rattle.phase_base.specs.declared.entry.Entry.{Entry}
 use Rattle.phase_accum.specs.declared.single.Single.{Single}
 pub use Rattle.phase_accum.specs.Singles.{is_same, differs}
 use Rattle.phase_history.specs.declared.refusal.NoTask.{NoTask}
@@ -17,7 +17,7 @@ use Rattle.phase_history.specs.declared.refusal.SignalRefusal.{SignalRefusal}
 use Rattle.phase_history.specs.declared.refusal.SignalRefusal.TheVariants as signal
 use Rattle.phase_history.specs.declared.refusal.WaitRefusal.{WaitRefusal}
 use Rattle.phase_history.specs.declared.refusal.WaitRefusal.TheVariants as wait
-use Rattle.phase_accum.specs.phase_base.Members.{Members, entry_of, signal_phases, wait_phases, least, signalled}
+use Rattle.phase_base.specs.Members.{Members, entry_of, signal_phases, wait_phases, least, signalled}
 use Rattle.phase_history.specs.Histories.{History, Positions, positions_of, members_of, done_at, greatest_used}
 use Rattle.phase_history.specs.Phases.{sends_of_phase, named_in_phase}
 

@@ -1,7 +1,7 @@
 -- What a phaser answers to a call after a history, and the event that a call with its reply makes.
 use Rattle.std.specs.Prelude.{ℕ, ◌-◌, ℤ, min, List, ◌∷◌, Option, Some, None, Result, Ok, Err, if◌then◌else◌, nat_lt}
-use Rattle.phase_accum.specs.phase_base.Limits.{Limits}
-use Rattle.phase_accum.specs.phase_base.declared.mode.Mode.{Mode}
+use Rattle.phase_base.specs.Limits.{Limits}
+use Rattle.phase_base.specs.declared.mode.Mode.{Mode}
 use Rattle.phase_accum.specs.declared.outcome.Outcome.{Outcome}
 use Rattle.phase_accum.specs.declared.single.Single.{Single}
 use Rattle.phase_history.specs.declared.event.Event.{Event}

@@ -1,11 +1,11 @@
 -- What one task has sent on a phaser, and what some tasks together have sent in a phase.
 use Rattle.std.specs.Prelude.{◌≡◌, ◌≢◌, ℕ, ◌+◌, ℤ, List, [], ◌∷◌, ◌++◌, Option, Some, true, false, if◌then◌else◌, ◌==◌}
-use Rattle.phase_accum.specs.phase_base.declared.entry.Entry.{Entry}
+use Rattle.phase_base.specs.declared.entry.Entry.{Entry}
 use Rattle.phase_accum.specs.declared.single.Single.{Single}
 use Rattle.phase_history.specs.declared.event.Event.TheVariants.{Signalled}
 use Rattle.phase_history.specs.Histories.{History, signal_phase, start_of, top_of, phases_signalled}
 use Rattle.phase_history.specs.Phases.{list_in_phase}
-use Rattle.phase_accum.specs.phase_base.Lists.{is_in}
+use Rattle.phase_base.specs.Lists.{is_in}
 
 -- the lists of sends that the task has signalled, in order, a list a phase
 abbrev pub sent_by : History → ℕ → List (List ℤ)

@@ -1,6 +1,6 @@
 //! The calls of a phaser as plain data. The code makes none: contracts speak of them.
 use phase_accum::Single;
-use phase_accum::phase_base::Mode;
+use phase_base::Mode;
 use std::collections::LinkedList;
 
 /// A call of a phaser.

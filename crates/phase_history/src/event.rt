@@ -1,6 +1,6 @@
 //! What happens on a phaser. The code keeps no events: contracts speak of lists of them.
 use phase_accum::Single;
-use phase_accum::phase_base::Mode;
+use phase_base::Mode;
 use std::collections::LinkedList;
 
 /// What one call did on a phaser. A refused call makes no event, nor does a wait that is answered

@@ -3,12 +3,12 @@
 ghost use Rattle.std.specs.Prelude.{◌≡◌, ◌+◌, ◌<◌, ◌≤◌, ℕ, ℤ, List, length, Ok, Some, None, IsSome, true, false, ◌↔◌};
 ghost use Rattle.std.specs.List.{All};
 ghost use mathlib.Core.List.{IsPrefix};
-ghost use Rattle.phase_accum.specs.phase_base.Limits.{Limits};
-ghost use Rattle.phase_accum.specs.phase_base.Modes.{mode_signals, mode_waits};
-ghost use Rattle.phase_accum.specs.phase_base.declared.entry.Entry.{Entry};
+ghost use Rattle.phase_base.specs.Limits.{Limits};
+ghost use Rattle.phase_base.specs.Modes.{mode_signals, mode_waits};
+ghost use Rattle.phase_base.specs.declared.entry.Entry.{Entry};
 ghost use Rattle.phase_accum.specs.declared.outcome.Outcome.{Outcome};
 ghost use Rattle.phase_accum.specs.Values.{IsInRange};
-ghost use Rattle.phase_accum.specs.phase_base.Members.{entry_of, wait_phases, least};
+ghost use Rattle.phase_base.specs.Members.{entry_of, wait_phases, least};
 ghost use Rattle.phase_history.specs.Histories.{History, IsBeginning, IsWaiter, HasNoSignaller, members_of, top_of, done_of, greatest_used, IsAlive, start_of, has_dropped, phases_waited};
 ghost use Rattle.phase_history.specs.Phases.{received_by, stream_of};
 ghost use Rattle.phase_history.specs.Legal.{IsLegal};

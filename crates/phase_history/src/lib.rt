@@ -13,7 +13,5 @@ mod reply;
 pub use call::Call;
 pub use event::Event;
 pub use got::{Got, GotBlock};
-pub use phase_accum;
-pub use phase_accum::phase_base;
 pub use refusal::{NoTask, RegisterRefusal, SignalRefusal, WaitRefusal};
 pub use reply::Reply;

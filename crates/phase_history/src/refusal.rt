@@ -1,5 +1,5 @@
 //! Why a call of a phaser was refused. The variants stand in the order in which they are checked.
-use phase_accum::phase_base::{MEMBERS_MAX, SENDS_MAX};
+use phase_base::{MEMBERS_MAX, SENDS_MAX};
 use thiserror::Error;
 
 /// The task is not registered.

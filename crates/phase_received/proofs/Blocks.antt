@@ -1,12 +1,12 @@
 -- What a wait for a block tells where the stream has ended.
 use Rattle.std.proofs.Common.{ℕ, ◌≤◌, ℤ, List, length, sym, subst}
 use Rattle.std.specs.Prelude.{Ok}
-use Rattle.phase_shared.specs.phase_base.Limits.{Limits}
-use Rattle.phase_shared.specs.phase_accum.declared.outcome.Outcome.{Outcome}
-use Rattle.phase_shared.specs.phase_history.declared.got.GotBlock.TheVariants as block
-use Rattle.phase_shared.specs.phase_history.Histories.{History, HasNoSignaller, done_of, wait_phase}
+use Rattle.phase_base.specs.Limits.{Limits}
+use Rattle.phase_accum.specs.declared.outcome.Outcome.{Outcome}
+use Rattle.phase_history.specs.declared.got.GotBlock.TheVariants as block
+use Rattle.phase_history.specs.Histories.{History, HasNoSignaller, done_of, wait_phase}
 use Rattle.phase_shared.specs.Blocks.{WaitsBlock}
-use Rattle.phase_shared.proofs.phase_history_lemmas.Answered.{block_ended_tells}
+use Rattle.phase_history.proofs.Answered.{block_ended_tells}
 use Rattle.phase_received.specs.Whole.{HasSeenEnd}
 
 pub block_seen_end : (value : List ℤ → Outcome) (limits : Limits) (me : ℕ) (old new : History) (old_out new_out : List Outcome)

@@ -1,17 +1,17 @@
 -- What a registration has received, where its number stayed.
 use Rattle.std.proofs.Common.{◌≡◌, ℕ, ℤ, List, [], ◌∷◌, true, ap, ◌∙◌}
 use Rattle.std.specs.Prelude.{Result, Ok, Err}
-use Rattle.phase_shared.specs.phase_base.declared.mode.Mode.{Mode}
-use Rattle.phase_shared.specs.phase_base.declared.mode.Mode.TheVariants.{Wait}
-use Rattle.phase_shared.specs.phase_accum.Operations.{Operation}
-use Rattle.phase_shared.specs.phase_accum.declared.outcome.Outcome.{Outcome}
-use Rattle.phase_shared.specs.phase_history.Phases.{received_by}
-use Rattle.phase_shared.specs.phase_base.Lists.{is_in}
-use Rattle.phase_shared.specs.phase_core.declared.standing.Standing.{Standing}
-use Rattle.phase_shared.specs.phase_history.Histories.{History}
-use Rattle.phase_shared.specs.phase_history.Others.{OthersCame}
-use Rattle.phase_shared.specs.phase_history.declared.refusal.NoTask.{NoTask}
-use Rattle.phase_shared.specs.phase_history.declared.refusal.RegisterRefusal.{RegisterRefusal}
+use Rattle.phase_base.specs.declared.mode.Mode.{Mode}
+use Rattle.phase_base.specs.declared.mode.Mode.TheVariants.{Wait}
+use Rattle.phase_accum.specs.Operations.{Operation}
+use Rattle.phase_accum.specs.declared.outcome.Outcome.{Outcome}
+use Rattle.phase_history.specs.Phases.{received_by}
+use Rattle.phase_base.specs.Lists.{is_in}
+use Rattle.phase_core.specs.declared.standing.Standing.{Standing}
+use Rattle.phase_history.specs.Histories.{History}
+use Rattle.phase_history.specs.Others.{OthersCame}
+use Rattle.phase_history.specs.declared.refusal.NoTask.{NoTask}
+use Rattle.phase_history.specs.declared.refusal.RegisterRefusal.{RegisterRefusal}
 use Rattle.phase_shared.specs.Standings.{AnswersStanding}
 use Rattle.phase_shared.specs.Regs.{RegState}
 use Rattle.phase_shared.specs.declared.tried.Tried.{Tried}

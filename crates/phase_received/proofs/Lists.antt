@@ -1,9 +1,9 @@
 -- The lists of two pasts, one behind the other.
 use Rattle.std.proofs.Common.{◌≡◌, List, [], ◌∷◌, ◌++◌, map, sym, ap, ap₂, ◌∙◌}
 use Rattle.std.proofs.lemmas.List.{map-append, append_assoc}
-use Rattle.phase_shared.specs.phase_accum.Operations.{Operation}
-use Rattle.phase_shared.specs.phase_accum.declared.outcome.Outcome.{Outcome}
-use Rattle.phase_shared.specs.phase_history.Phases.{received_by}
+use Rattle.phase_accum.specs.Operations.{Operation}
+use Rattle.phase_accum.specs.declared.outcome.Outcome.{Outcome}
+use Rattle.phase_history.specs.Phases.{received_by}
 use Rattle.phase_shared.specs.Regs.{PastState}
 use Rattle.phase_received.specs.Received.{all_received}
 

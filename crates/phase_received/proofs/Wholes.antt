@@ -4,25 +4,25 @@ use Rattle.std.specs.Prelude.{unwrap_or}
 use Rattle.std.proofs.lemmas.List.{length-drop, take_all}
 use Rattle.std.proofs.lemmas.List.FromFn.{length-map-range_with_len}
 use Rattle.std.proofs.lemmas.Bool.{false_from_ne_true}
-use Rattle.phase_shared.specs.phase_base.Limits.{Limits}
-use Rattle.phase_shared.specs.phase_base.Members.{entry_of}
-use Rattle.phase_shared.specs.phase_base.Modes.{mode_signals, mode_waits}
-use Rattle.phase_shared.specs.phase_base.declared.entry.Entry.{Entry}
-use Rattle.phase_shared.specs.phase_base.declared.member.Member.{Member}
-use Rattle.phase_shared.specs.phase_accum.declared.outcome.Outcome.{Outcome}
-use Rattle.phase_shared.specs.phase_history.declared.event.Event.TheVariants.{Dropped}
-use Rattle.phase_shared.specs.phase_history.Histories.{History, IsBeginning, IsWaiter, HasNoSignaller, members_of, founder, done_of, start_of, wait_phase}
-use Rattle.phase_shared.specs.phase_history.Phases.{received_by, stream_of}
-use Rattle.phase_shared.specs.phase_history.Legal.{IsLegal}
-use Rattle.phase_shared.specs.phase_history.Others.{OthersCame}
-use Rattle.phase_shared.specs.phase_base.Lists.{is_in}
-use Rattle.phase_shared.specs.phase_history.Laws.{HasReceived}
-use Rattle.phase_shared.proofs.phase_history_lemmas.Each.{Each, Each-of_picked}
-use Rattle.phase_shared.proofs.phase_history_lemmas.MemberLemmas.{Each-entry}
-use Rattle.phase_shared.proofs.phase_history_lemmas.LawProofs.{got_of}
-use Rattle.phase_shared.proofs.phase_history_lemmas.Streams.{stream_closed, signallers_closed}
-use Rattle.phase_shared.proofs.phase_history_lemmas.Used.{start_of-longer, IsLegal-beginning}
-use Rattle.phase_shared.proofs.phase_history_lemmas.OthersEvents.{IsBeginning-others, received_by-others}
+use Rattle.phase_base.specs.Limits.{Limits}
+use Rattle.phase_base.specs.Members.{entry_of}
+use Rattle.phase_base.specs.Modes.{mode_signals, mode_waits}
+use Rattle.phase_base.specs.declared.entry.Entry.{Entry}
+use Rattle.phase_base.specs.declared.member.Member.{Member}
+use Rattle.phase_accum.specs.declared.outcome.Outcome.{Outcome}
+use Rattle.phase_history.specs.declared.event.Event.TheVariants.{Dropped}
+use Rattle.phase_history.specs.Histories.{History, IsBeginning, IsWaiter, HasNoSignaller, members_of, founder, done_of, start_of, wait_phase}
+use Rattle.phase_history.specs.Phases.{received_by, stream_of}
+use Rattle.phase_history.specs.Legal.{IsLegal}
+use Rattle.phase_history.specs.Others.{OthersCame}
+use Rattle.phase_base.specs.Lists.{is_in}
+use Rattle.phase_history.specs.Laws.{HasReceived}
+use Rattle.phase_history.proofs.Each.{Each, Each-of_picked}
+use Rattle.phase_history.proofs.MemberLemmas.{Each-entry}
+use Rattle.phase_history.proofs.LawProofs.{got_of}
+use Rattle.phase_history.proofs.Streams.{stream_closed, signallers_closed}
+use Rattle.phase_history.proofs.Used.{start_of-longer, IsLegal-beginning}
+use Rattle.phase_history.proofs.OthersEvents.{IsBeginning-others, received_by-others}
 use Rattle.phase_shared.specs.Calls.{Leaves}
 use Rattle.phase_shared.proofs.NextSteps.{waits_else}
 use Rattle.phase_shared.proofs.PartSteps.{leaver_stays}

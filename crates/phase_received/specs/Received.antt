@@ -1,10 +1,10 @@
 -- What registrations have received, by the history that was seen.
 use Rattle.std.specs.Prelude.{◌≡◌, ◌≤◌, ℕ, List, [], ◌∷◌, ◌++◌, map, take, Result, Ok, Err}
-use Rattle.phase_shared.specs.phase_accum.Operations.{Operation}
-use Rattle.phase_shared.specs.phase_accum.declared.outcome.Outcome.{Outcome}
-use Rattle.phase_shared.specs.phase_history.Phases.{received_by}
-use Rattle.phase_shared.specs.phase_history.declared.got.GotBlock.{GotBlock}
-use Rattle.phase_shared.specs.phase_history.declared.got.GotBlock.TheVariants.{Values, Ended}
+use Rattle.phase_accum.specs.Operations.{Operation}
+use Rattle.phase_accum.specs.declared.outcome.Outcome.{Outcome}
+use Rattle.phase_history.specs.Phases.{received_by}
+use Rattle.phase_history.specs.declared.got.GotBlock.{GotBlock}
+use Rattle.phase_history.specs.declared.got.GotBlock.TheVariants.{Values, Ended}
 use Rattle.phase_shared.specs.Regs.{RegState, PastState}
 use Rattle.phase_received.specs.declared.fault.ReceiveFault.{ReceiveFault}
 use Rattle.phase_received.specs.declared.fault.ReceiveFault.TheVariants.{OutOfMemory, Refused}

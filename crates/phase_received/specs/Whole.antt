@@ -1,9 +1,9 @@
 -- The end of a stream, and who has received all of it.
 use Rattle.std.specs.Prelude.{◌≡◌, ℕ, ◌≤◌, ℤ, List, Some, drop}
-use Rattle.phase_shared.specs.phase_base.declared.entry.Entry.{Entry}
-use Rattle.phase_shared.specs.phase_accum.declared.outcome.Outcome.{Outcome}
-use Rattle.phase_shared.specs.phase_history.Histories.{History, HasNoSignaller, start_of, done_of, wait_phase}
-use Rattle.phase_shared.specs.phase_history.Phases.{received_by, stream_of}
+use Rattle.phase_base.specs.declared.entry.Entry.{Entry}
+use Rattle.phase_accum.specs.declared.outcome.Outcome.{Outcome}
+use Rattle.phase_history.specs.Histories.{History, HasNoSignaller, start_of, done_of, wait_phase}
+use Rattle.phase_history.specs.Phases.{received_by, stream_of}
 
 -- the task has seen that no more will come: no registered task signals, and it has waited for each
 -- complete phase

@@ -1,14 +1,14 @@
 //! What holds of those who receive a stream to its end. Each function here makes no call and has no
 //! effect: its contract is a law, which a caller has by calling it.
 ghost use Rattle.std.specs.Prelude.{◌≡◌, ℕ, ℤ, List, true};
-ghost use Rattle.phase_shared.specs.phase_base.Limits.{Limits};
-ghost use Rattle.phase_shared.specs.phase_base.Members.{entry_of};
-ghost use Rattle.phase_shared.specs.phase_base.declared.entry.Entry.{Entry};
-ghost use Rattle.phase_shared.specs.phase_accum.declared.outcome.Outcome.{Outcome};
-ghost use Rattle.phase_shared.specs.phase_history.Histories.{History, members_of};
-ghost use Rattle.phase_shared.specs.phase_history.Legal.{IsLegal};
-ghost use Rattle.phase_shared.specs.phase_history.Others.{OthersCame};
-ghost use Rattle.phase_shared.specs.phase_base.Lists.{is_in};
+ghost use Rattle.phase_base.specs.Limits.{Limits};
+ghost use Rattle.phase_base.specs.Members.{entry_of};
+ghost use Rattle.phase_base.specs.declared.entry.Entry.{Entry};
+ghost use Rattle.phase_accum.specs.declared.outcome.Outcome.{Outcome};
+ghost use Rattle.phase_history.specs.Histories.{History, members_of};
+ghost use Rattle.phase_history.specs.Legal.{IsLegal};
+ghost use Rattle.phase_history.specs.Others.{OthersCame};
+ghost use Rattle.phase_base.specs.Lists.{is_in};
 ghost use Rattle.phase_shared.specs.Calls.{Leaves};
 ghost use Rattle.phase_received.specs.Whole.{HasSeenEnd, HasWhole};
 

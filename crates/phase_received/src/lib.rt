@@ -22,7 +22,5 @@ mod receipts;
 mod receiver;
 
 pub use fault::ReceiveFault;
-pub use phase_shared;
-pub use phase_shared::{phase_accum, phase_base, phase_core, turn_lock};
 pub use receipts::Receipts;
 pub use receiver::Receiver;

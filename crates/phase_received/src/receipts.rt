@@ -1,12 +1,12 @@
 //! A past with what each registration that went into it got.
 ghost use Rattle.std.specs.Prelude.{◌≡◌, ◌∷◌, ◌++◌, [], map, true, IfOk, IfErr};
-ghost use Rattle.phase_shared.specs.phase_history.Others.{OthersCame};
-ghost use Rattle.phase_shared.specs.phase_base.Lists.{is_distinct};
+ghost use Rattle.phase_history.specs.Others.{OthersCame};
+ghost use Rattle.phase_base.specs.Lists.{is_distinct};
 ghost use Rattle.phase_shared.specs.Rule.{IsGoodAt};
 ghost use Rattle.phase_shared.specs.Regs.{phaser_lock, phaser_terms};
 ghost use Rattle.phase_received.specs.Received.{all_received};
 
-use phase_shared::phase_accum::{Accumulate, Outcome};
+use phase_accum::{Accumulate, Outcome};
 use phase_shared::{Past, Phaser, SignalRule};
 use std::alloc::Global;
 use std::marker::Model;

@@ -1,3 +1,2 @@
 pub mod NumberPlaces
 pub mod Rosters
-pub use Rattle.phase_base.specs as phase_base

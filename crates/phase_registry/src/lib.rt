@@ -5,6 +5,5 @@
 mod refusal;
 mod registry;
 
-pub use phase_base;
 pub use refusal::AddRefusal;
 pub use registry::Registry;

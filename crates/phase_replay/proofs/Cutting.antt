@@ -2,7 +2,7 @@
 use Rattle.std.proofs.Common.{◌≡◌, ℕ, ◌+◌, ◌-◌, ◌≤◌, List, ◌++◌, length, take, slice_index, nat_eq, sym, ◌∙◌, ap, arith, inl, inr}
 use Rattle.std.proofs.lemmas.Bool.{cond_both, cases_lt}
 use Rattle.std.proofs.lemmas.List.{take_all, take-take, take-append-le, length-take-le}
-use Rattle.phase_core.specs.phase_base.Lists.{without_cr}
+use Rattle.phase_base.specs.Lists.{without_cr}
 use Rattle.phase_replay.specs.Scripts.{ScriptState, reply_line_of, after_line}
 use Rattle.phase_replay.proofs.LongLine.{long_line}
 

@@ -2,11 +2,11 @@
 -- definitions and compared with replies that were found by hand. The text of a number is left out: a
 -- reply stands here as data.
 use Rattle.std.proofs.Common.{◌≡◌, List, ℕ, [], ◌∷◌, pos, negsuc, codes, refl}
-use Rattle.phase_script.specs.phase_accum.declared.outcome.Outcome.TheVariants as outcome
+use Rattle.phase_accum.specs.declared.outcome.Outcome.TheVariants as outcome
 use Rattle.phase_script.specs.declared.refusal.Refusal.TheVariants as no
 use Rattle.phase_script.specs.ReplyLines.{WholeReply, Accepted, Signalled, Joined, Value, Empty, TooBig, Values, Ended, Refused, BadLine}
 use Rattle.phase_script.specs.Commands.{command_of, mode_of, ends_of, clamp_after, single_of, make_of, add_of, now_of, send_of, signal_of, signal_with, ints_of, few_values, values_of, block_of, take_with, take_of, wait_of, drop_of, command_after}
-use Rattle.phase_script.specs.phase_accum.phase_base.Numbers.{nat_within, int_within}
+use Rattle.phase_base.specs.Numbers.{nat_within, int_within}
 use Rattle.phase_script.specs.Lines.{lines_of}
 use Rattle.phase_replay.specs.Scripts.{ScriptState, start, reply_of_line, after_line, command_reply, after_command}
 

@@ -12,4 +12,3 @@ pub mod Operations
 pub mod Scripted
 pub mod Short
 mod Stopping
-pub use Rattle.watched_io.proofs as watched_io_lemmas

@@ -2,28 +2,28 @@
 use Rattle.std.proofs.Common.{◌≡◌, ℕ, ◌+◌, ◌≤◌, Bool, true, false, cond, eqb, List, [], ◌∷◌, ◌++◌, Option, Some, None, Ok, Err, ℤ, Result, leb, not, length, refl, sym, ap, subst, ◌∙◌, arith, length-append}
 use Rattle.std.proofs.lemmas.List.{append-nil}
 use Rattle.std.proofs.lemmas.Bool.{eq-eqb, eqb-true, lt-leb}
-use Rattle.phase_core.specs.phase_base.Limits.{Limits}
-use Rattle.phase_core.specs.phase_base.Modes.{mode_signals}
-use Rattle.phase_core.specs.phase_base.declared.entry.Entry.{Entry}
-use Rattle.phase_core.specs.phase_base.Members.{entry_of}
-use Rattle.phase_script.specs.phase_accum.Operations.{Operation}
-use Rattle.phase_script.specs.phase_accum.Parcels.{Parcel, StandsForSends}
-use Rattle.phase_script.specs.phase_accum.declared.single.Single.{Single}
-use Rattle.phase_core.specs.phase_history.declared.event.Event.TheVariants.{Signalled, Dropped}
-use Rattle.phase_core.specs.phase_history.declared.refusal.NoTask.{NoTask}
-use Rattle.phase_core.specs.phase_history.declared.refusal.SignalRefusal.{SignalRefusal}
-use Rattle.phase_core.specs.phase_history.Histories.{History, members_of}
-use Rattle.phase_core.specs.phase_history.Refusals.{refusal_at, drop_refusal}
-use Rattle.phase_core.specs.phase_history.declared.call.Call.TheVariants.{Drop}
-use Rattle.phase_core.specs.phase_history.declared.reply.Reply.TheVariants.{Accepted as CallAccepted, SignalledIn, NotSignalled, NotDropped}
-use Rattle.phase_core.specs.phase_history.Replies.{reply_by, after_reply, signal_reply, refused_or}
+use Rattle.phase_base.specs.Limits.{Limits}
+use Rattle.phase_base.specs.Modes.{mode_signals}
+use Rattle.phase_base.specs.declared.entry.Entry.{Entry}
+use Rattle.phase_base.specs.Members.{entry_of}
+use Rattle.phase_accum.specs.Operations.{Operation}
+use Rattle.phase_accum.specs.Parcels.{Parcel, StandsForSends}
+use Rattle.phase_accum.specs.declared.single.Single.{Single}
+use Rattle.phase_history.specs.declared.event.Event.TheVariants.{Signalled, Dropped}
+use Rattle.phase_history.specs.declared.refusal.NoTask.{NoTask}
+use Rattle.phase_history.specs.declared.refusal.SignalRefusal.{SignalRefusal}
+use Rattle.phase_history.specs.Histories.{History, members_of}
+use Rattle.phase_history.specs.Refusals.{refusal_at, drop_refusal}
+use Rattle.phase_history.specs.declared.call.Call.TheVariants.{Drop}
+use Rattle.phase_history.specs.declared.reply.Reply.TheVariants.{Accepted as CallAccepted, SignalledIn, NotSignalled, NotDropped}
+use Rattle.phase_history.specs.Replies.{reply_by, after_reply, signal_reply, refused_or}
 use Rattle.phase_core.specs.Cores.{CoreState, StandsFor}
 use Rattle.phase_script.specs.declared.refusal.Refusal.TheVariants as no
 use Rattle.phase_script.specs.declared.command.Command.{Command}
 use Rattle.phase_script.specs.declared.reply.Reply.{Reply}
 use Rattle.phase_script.specs.ReplyLines.{WholeReply, whole_reply, Tells, Accepted}
 use Rattle.phase_script.specs.Commands.{WholeCommand, whole_command}
-use Rattle.phase_script.specs.phase_accum.declared.outcome.Outcome.{Outcome}
+use Rattle.phase_accum.specs.declared.outcome.Outcome.{Outcome}
 use Rattle.std.specs.Prelude.{IfOk, OnOk, OnErr, IsSome, is_some, nat_lt}
 use Rattle.phase_replay.specs.declared.script_phaser.ScriptPhaser.{ScriptPhaser}
 use Rattle.phase_replay.specs.HeldSends.{Parcels, held_at, nothing}

@@ -1,24 +1,24 @@
 -- A phaser under one of the operations, through a command.
 use Rattle.std.proofs.Common.{◌≡◌, ℤ, List, Option, Result, Ok, Err, refl, sym, ap, subst, ◌∙◌}
 use Rattle.std.specs.Prelude.{IfOk, OnOk, OnErr}
-use Rattle.phase_core.specs.phase_base.Limits.{Limits}
-use Rattle.phase_script.specs.phase_accum.declared.outcome.Outcome.{Outcome}
-use Rattle.phase_script.specs.phase_accum.Operations.{Operation}
-use Rattle.phase_script.specs.phase_accum.Sums.{sum_operation}
-use Rattle.phase_script.specs.phase_accum.Products.{product_operation}
-use Rattle.phase_script.specs.phase_accum.Leasts.{least_operation}
-use Rattle.phase_script.specs.phase_accum.Greatests.{greatest_operation}
-use Rattle.phase_script.specs.phase_accum.Anys.{any_operation}
-use Rattle.phase_core.specs.phase_history.Histories.{History}
+use Rattle.phase_base.specs.Limits.{Limits}
+use Rattle.phase_accum.specs.declared.outcome.Outcome.{Outcome}
+use Rattle.phase_accum.specs.Operations.{Operation}
+use Rattle.phase_accum.specs.Sums.{sum_operation}
+use Rattle.phase_accum.specs.Products.{product_operation}
+use Rattle.phase_accum.specs.Leasts.{least_operation}
+use Rattle.phase_accum.specs.Greatests.{greatest_operation}
+use Rattle.phase_accum.specs.Anys.{any_operation}
+use Rattle.phase_history.specs.Histories.{History}
 use Rattle.phase_script.specs.Commands.{WholeCommand}
-use Rattle.phase_core.specs.phase_base.declared.operation.Op.{Op}
-use Rattle.phase_core.specs.phase_base.declared.operation.Op.TheVariants.{Sum, Product, Least, Greatest, Any}
+use Rattle.phase_base.specs.declared.operation.Op.{Op}
+use Rattle.phase_base.specs.declared.operation.Op.TheVariants.{Sum, Product, Least, Greatest, Any}
 use Rattle.phase_script.specs.declared.reply.Reply.{Reply}
 use Rattle.phase_script.specs.ReplyLines.{WholeReply, whole_reply}
 use Rattle.phase_replay.specs.declared.script_phaser.ScriptPhaser.{ScriptPhaser}
 use Rattle.phase_replay.specs.declared.any_phaser.AnyPhaser.{AnyPhaser}
 use Rattle.phase_replay.specs.declared.any_phaser.AnyPhaser.TheVariants as phaser
-use Rattle.phase_script.specs.phase_accum.Values.{value_by}
+use Rattle.phase_accum.specs.Values.{value_by}
 use Rattle.phase_replay.specs.Scripts.{Held, phaser_reply, history_after, held_after, IsOkReply}
 use Rattle.phase_replay.specs.Session.{ScriptPhaserStandsFor, AnyStandsFor}
 use Rattle.phase_replay.proofs.Obeying.{RepliesTo, StandsAfter, IsOkAfter}

@@ -9,7 +9,7 @@ use Rattle.phase_replay.specs.declared.replayer.Replayer.{Replayer}
 use Rattle.phase_script.specs.Cuts.{HasNoLf}
 use Rattle.phase_script.proofs.CutAtLf.{lines_after-prefix}
 use Rattle.phase_script.specs.Lines.{lines_after, lines_of}
-use Rattle.phase_core.specs.phase_base.Lists.{without_cr}
+use Rattle.phase_base.specs.Lists.{without_cr}
 use Rattle.phase_replay.specs.Replies.{replies, replies_of}
 use Rattle.phase_replay.specs.Replayer.{ReplayerOwes}
 use Rattle.phase_replay.specs.Scripts.{ScriptState, start, reply_line_of, after_line}

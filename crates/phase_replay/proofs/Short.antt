@@ -1,48 +1,48 @@
 -- The replies of a session are replies of scripts: their phases and values are within the limits.
 use Rattle.std.proofs.Common.{◌≡◌, ℕ, ◌+◌, ◌-◌, ◌<◌, ◌≤◌, true, false, drop, List, [], ◌∷◌, Option, Some, None, Result, Ok, Err, ℤ, leb, refl, ap, subst, arith}
 use Rattle.std.proofs.lemmas.Bool.{leb-false}
-use Rattle.phase_core.specs.phase_base.Limits.{Limits, AreLimits}
-use Rattle.phase_core.specs.phase_base.declared.entry.Entry.{Entry}
-use Rattle.phase_core.specs.phase_base.Members.{entry_of}
-use Rattle.phase_script.specs.phase_accum.declared.outcome.Outcome.{Outcome}
-use Rattle.phase_script.specs.phase_accum.declared.outcome.Outcome.TheVariants as outcome
-use Rattle.phase_script.specs.phase_accum.declared.single.Single.{Single}
-use Rattle.phase_script.specs.phase_accum.Values.{IsInRange, value_by}
-use Rattle.phase_script.specs.phase_accum.Operations.{Operation, AccumulateLaws}
-use Rattle.phase_script.specs.phase_accum.Sums.{sum_operation, sum_laws}
-use Rattle.phase_script.specs.phase_accum.Products.{product_operation, product_laws}
-use Rattle.phase_script.specs.phase_accum.Leasts.{least_operation, least_laws}
-use Rattle.phase_script.specs.phase_accum.Greatests.{greatest_operation, greatest_laws}
-use Rattle.phase_script.specs.phase_accum.Anys.{any_operation, any_laws}
-use Rattle.phase_core.specs.phase_history.declared.got.Got.{Got}
-use Rattle.phase_core.specs.phase_history.declared.got.Got.TheVariants as got
-use Rattle.phase_core.specs.phase_history.declared.refusal.NoTask.{NoTask}
-use Rattle.phase_core.specs.phase_history.declared.refusal.RegisterRefusal.{RegisterRefusal}
-use Rattle.phase_core.specs.phase_history.declared.refusal.RegisterRefusal.TheVariants as register
-use Rattle.phase_core.specs.phase_history.declared.refusal.SignalRefusal.{SignalRefusal}
-use Rattle.phase_core.specs.phase_history.declared.refusal.SignalRefusal.TheVariants as signal
-use Rattle.phase_core.specs.phase_history.declared.refusal.WaitRefusal.{WaitRefusal}
-use Rattle.phase_core.specs.phase_history.declared.refusal.WaitRefusal.TheVariants as wait
-use Rattle.phase_core.specs.phase_history.Histories.{History, members_of, signal_phase, done_of, top_of}
-use Rattle.phase_core.specs.phase_history.Legal.{IsLegal}
-use Rattle.phase_core.specs.phase_history.Refusals.{signal_refusal, signal_rows, register_refusal, register_now_refusal, drop_refusal}
-use Rattle.phase_core.specs.phase_history.declared.reply.Reply.TheVariants.{Accepted as CallAccepted, JoinedAt, SignalledIn, Received, ReceivedBlock, NotRegistered, NotSignalled, NotReceived, NotDropped}
-use Rattle.phase_core.specs.phase_history.Replies.{signal_reply, wait_reply, wait_block_reply, refused_or, reply_by as by_result}
-use Rattle.phase_core.proofs.phase_history_lemmas.InRange.{wait_reply-in_range, stream_of-in_range}
-use Rattle.phase_core.proofs.phase_history_lemmas.BlockAnswers.{block_tells}
-use Rattle.phase_core.proofs.phase_history_lemmas.LawProofs.{answers_law}
-use Rattle.phase_core.proofs.phase_history_lemmas.Refused.{Passes, passes_from}
-use Rattle.phase_core.proofs.phase_history_lemmas.Steps.{done_below_top, sound_of, member_entry_is}
-use Rattle.phase_core.proofs.phase_history_lemmas.Tops.{top_within}
+use Rattle.phase_base.specs.Limits.{Limits, AreLimits}
+use Rattle.phase_base.specs.declared.entry.Entry.{Entry}
+use Rattle.phase_base.specs.Members.{entry_of}
+use Rattle.phase_accum.specs.declared.outcome.Outcome.{Outcome}
+use Rattle.phase_accum.specs.declared.outcome.Outcome.TheVariants as outcome
+use Rattle.phase_accum.specs.declared.single.Single.{Single}
+use Rattle.phase_accum.specs.Values.{IsInRange, value_by}
+use Rattle.phase_accum.specs.Operations.{Operation, AccumulateLaws}
+use Rattle.phase_accum.specs.Sums.{sum_operation, sum_laws}
+use Rattle.phase_accum.specs.Products.{product_operation, product_laws}
+use Rattle.phase_accum.specs.Leasts.{least_operation, least_laws}
+use Rattle.phase_accum.specs.Greatests.{greatest_operation, greatest_laws}
+use Rattle.phase_accum.specs.Anys.{any_operation, any_laws}
+use Rattle.phase_history.specs.declared.got.Got.{Got}
+use Rattle.phase_history.specs.declared.got.Got.TheVariants as got
+use Rattle.phase_history.specs.declared.refusal.NoTask.{NoTask}
+use Rattle.phase_history.specs.declared.refusal.RegisterRefusal.{RegisterRefusal}
+use Rattle.phase_history.specs.declared.refusal.RegisterRefusal.TheVariants as register
+use Rattle.phase_history.specs.declared.refusal.SignalRefusal.{SignalRefusal}
+use Rattle.phase_history.specs.declared.refusal.SignalRefusal.TheVariants as signal
+use Rattle.phase_history.specs.declared.refusal.WaitRefusal.{WaitRefusal}
+use Rattle.phase_history.specs.declared.refusal.WaitRefusal.TheVariants as wait
+use Rattle.phase_history.specs.Histories.{History, members_of, signal_phase, done_of, top_of}
+use Rattle.phase_history.specs.Legal.{IsLegal}
+use Rattle.phase_history.specs.Refusals.{signal_refusal, signal_rows, register_refusal, register_now_refusal, drop_refusal}
+use Rattle.phase_history.specs.declared.reply.Reply.TheVariants.{Accepted as CallAccepted, JoinedAt, SignalledIn, Received, ReceivedBlock, NotRegistered, NotSignalled, NotReceived, NotDropped}
+use Rattle.phase_history.specs.Replies.{signal_reply, wait_reply, wait_block_reply, refused_or, reply_by as by_result}
+use Rattle.phase_history.proofs.InRange.{wait_reply-in_range, stream_of-in_range}
+use Rattle.phase_history.proofs.BlockAnswers.{block_tells}
+use Rattle.phase_history.proofs.LawProofs.{answers_law}
+use Rattle.phase_history.proofs.Refused.{Passes, passes_from}
+use Rattle.phase_history.proofs.Steps.{done_below_top, sound_of, member_entry_is}
+use Rattle.phase_history.proofs.Tops.{top_within}
 use Rattle.phase_script.specs.Commands.{WholeCommand, Make, Add, Now, Send, Signal, Block, Wait, Take, Drop, IsCommand}
 use Rattle.std.specs.List.{All}
 use Rattle.std.proofs.lemmas.List.{length-take}
 use Rattle.std.proofs.lemmas.List.Elements.{All-take, All-drop}
-use Rattle.phase_core.specs.phase_history.declared.got.GotBlock.{GotBlock}
-use Rattle.phase_core.specs.phase_history.declared.got.GotBlock.TheVariants as block
-use Rattle.phase_core.specs.phase_history.Phases.{stream_of}
-use Rattle.phase_core.specs.phase_base.declared.operation.Op.{Op}
-use Rattle.phase_core.specs.phase_base.declared.operation.Op.TheVariants.{Sum, Product, Least, Greatest, Any}
+use Rattle.phase_history.specs.declared.got.GotBlock.{GotBlock}
+use Rattle.phase_history.specs.declared.got.GotBlock.TheVariants as block
+use Rattle.phase_history.specs.Phases.{stream_of}
+use Rattle.phase_base.specs.declared.operation.Op.{Op}
+use Rattle.phase_base.specs.declared.operation.Op.TheVariants.{Sum, Product, Least, Greatest, Any}
 use Rattle.phase_script.specs.declared.refusal.Refusal.{Refusal}
 use Rattle.phase_script.specs.ReplyLines.{WholeReply, IsReply}
 use Rattle.phase_script.specs.Numbers.{most}
@@ -50,7 +50,7 @@ use Rattle.phase_replay.specs.declared.script_phaser.ScriptPhaser.{ScriptPhaser}
 use Rattle.phase_replay.specs.declared.any_phaser.AnyPhaser.{AnyPhaser}
 use Rattle.phase_replay.specs.declared.any_phaser.AnyPhaser.TheVariants as phaser
 use Rattle.phase_core.specs.Blocks.{one_each}
-use Rattle.phase_core.proofs.phase_history_lemmas.Standstill.{limits_of}
+use Rattle.phase_history.proofs.Standstill.{limits_of}
 use Rattle.phase_replay.specs.Scripts.{ScriptState, NoPhaser, OnePhaser, Held, held_by, done_unless, script_reply, taken_reply, refused_or_reply, block_refusal, value_reply, phaser_reply, command_reply}
 use Rattle.phase_replay.specs.Session.{ScriptPhaserStandsFor, AnyStandsFor, MaybeStandsFor}
 

@@ -1,8 +1,5 @@
 -- A script is searched for its first line that is refused.
-use Rattle.std.proofs.Common.{◌≡◌, ℕ, ◌+◌, ◌<◌, ◌≤◌, Bool, true, false, List, [], ◌∷◌, ◌++◌}
-use Rattle.std.proofs.Common.{length, take, drop, get_or, refl, sym, ◌∙◌, ap, subst, append_assoc}
-use Rattle.std.proofs.Common.{append-nil, take-append-drop, length-append, length-drop, arith, inl}
-use Rattle.std.proofs.Common.{inr}
+use Rattle.std.proofs.Common.{◌≡◌, ℕ, ◌+◌, ◌<◌, ◌≤◌, Bool, true, false, List, [], ◌∷◌, ◌++◌, length, take, drop, get_or, refl, sym, ◌∙◌, ap, subst, append_assoc, append-nil, take-append-drop, length-append, length-drop, arith, inl, inr}
 use Rattle.std.proofs.lemmas.Bool.{cases_lt}
 use Rattle.std.proofs.lemmas.List.{take_all, take_more, length-take-le}
 use Rattle.std.proofs.Math.Seq.{take-append-add}
@@ -10,12 +7,10 @@ use Rattle.phase_script.specs.Commands.{command_of}
 use Rattle.phase_script.specs.Cuts.{HasNoLf}
 use Rattle.phase_script.proofs.CutAtLf.{lines_after-prefix}
 use Rattle.phase_script.specs.Lines.{last_line, lines_after, lines_of}
-use Rattle.phase_script.specs.ReplyLines.{WholeReply, Accepted, Signalled, Joined, Value, Empty}
-use Rattle.phase_script.specs.ReplyLines.{TooBig, Values, Ended, Refused, BadLine, reply_text}
-use Rattle.phase_core.specs.phase_base.Lists.{without_cr}
+use Rattle.phase_script.specs.ReplyLines.{WholeReply, Accepted, Signalled, Joined, Value, Empty, TooBig, Values, Ended, Refused, BadLine, reply_text}
+use Rattle.phase_base.specs.Lists.{without_cr}
 use Rattle.phase_replay.specs.ScriptReading.{IsFirstLine, begins_as_refusal}
-use Rattle.phase_replay.specs.Scripts.{ScriptState, after_line, reply_line_of, reply_of_line, start}
-use Rattle.phase_replay.specs.Scripts.{state_after, state_from}
+use Rattle.phase_replay.specs.Scripts.{ScriptState, after_line, reply_line_of, reply_of_line, start, state_after, state_from}
 use Rattle.phase_replay.specs.Session.{SessionState, SessionStands}
 use Rattle.phase_replay.specs.Stops.{AreLinesTaken, ScriptStopsAt, is_refusal, is_refused}
 use Rattle.phase_replay.proofs.Scripted.{state_after_push}

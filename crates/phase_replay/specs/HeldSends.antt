@@ -2,8 +2,8 @@
 -- parcels.
 use Rattle.std.specs.Prelude.{ℕ, List, nat_eq, unwrap_or}
 use Rattle.std.specs.Map.{lookup}
-use Rattle.phase_script.specs.phase_accum.Operations.{Operation}
-use Rattle.phase_script.specs.phase_accum.Parcels.{Parcel, parcel}
+use Rattle.phase_accum.specs.Operations.{Operation}
+use Rattle.phase_accum.specs.Parcels.{Parcel, parcel}
 
 -- what is kept of the sends of each task
 abbrev pub Parcels : Type 0 → Type 0

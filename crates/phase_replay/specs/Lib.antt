@@ -8,4 +8,3 @@ pub mod Replies
 pub mod Scripts
 pub mod Session
 pub mod Stops
-pub use Rattle.watched_io.specs as watched_io

@@ -1,35 +1,35 @@
 -- What the lines of a script are answered, and what they leave.
 use Rattle.std.specs.Prelude.{ℕ, ℤ, List, [], ◌∷◌, ◌++◌, Option, Some, None, Result, Ok, Err, Bool, not, ◌||◌, ◌==◌, nat_le, nat_lt, ◌+◌, length, slice_range, if◌then◌else◌}
-use Rattle.phase_core.specs.phase_base.Limits.{Limits, limits}
-use Rattle.phase_core.specs.phase_base.declared.limits.TheConstants.{BOUND_MAX, PHASES_MAX, SENDS_MAX}
-use Rattle.phase_core.specs.phase_base.Modes.{mode_signals}
-use Rattle.phase_core.specs.phase_base.declared.entry.Entry.{Entry}
-use Rattle.phase_core.specs.phase_base.Members.{entry_of}
-use Rattle.phase_script.specs.phase_accum.Values.{value_by}
-use Rattle.phase_script.specs.phase_accum.declared.outcome.Outcome.{Outcome}
-use Rattle.phase_script.specs.phase_accum.declared.outcome.Outcome.TheVariants as outcome
-use Rattle.phase_core.specs.phase_history.declared.event.Event.TheVariants.{Made}
-use Rattle.phase_script.specs.phase_accum.declared.single.Single.{Single}
-use Rattle.phase_core.specs.phase_history.declared.call.Call.{Call}
-use Rattle.phase_core.specs.phase_history.declared.call.Call.TheVariants as call
-use Rattle.phase_core.specs.phase_history.declared.got.Got.TheVariants as got
-use Rattle.phase_core.specs.phase_history.declared.got.GotBlock.TheVariants as block
-use Rattle.phase_core.specs.phase_history.declared.refusal.NoTask.{NoTask}
-use Rattle.phase_core.specs.phase_history.declared.refusal.RegisterRefusal.{RegisterRefusal}
-use Rattle.phase_core.specs.phase_history.declared.refusal.RegisterRefusal.TheVariants as register
-use Rattle.phase_core.specs.phase_history.declared.refusal.SignalRefusal.{SignalRefusal}
-use Rattle.phase_core.specs.phase_history.declared.refusal.SignalRefusal.TheVariants as signal
-use Rattle.phase_core.specs.phase_history.declared.refusal.WaitRefusal.{WaitRefusal}
-use Rattle.phase_core.specs.phase_history.declared.refusal.WaitRefusal.TheVariants as wait
-use Rattle.phase_core.specs.phase_history.Histories.{History, members_of}
-use Rattle.phase_core.specs.phase_history.declared.reply.Reply.{Reply as CallReply}
-use Rattle.phase_core.specs.phase_history.declared.reply.Reply.TheVariants as call_reply
-use Rattle.phase_core.specs.phase_history.Refusals.{refusal_at, drop_refusal}
-use Rattle.phase_core.specs.phase_base.Lists.{first_row}
+use Rattle.phase_base.specs.Limits.{Limits, limits}
+use Rattle.phase_base.specs.declared.limits.TheConstants.{BOUND_MAX, PHASES_MAX, SENDS_MAX}
+use Rattle.phase_base.specs.Modes.{mode_signals}
+use Rattle.phase_base.specs.declared.entry.Entry.{Entry}
+use Rattle.phase_base.specs.Members.{entry_of}
+use Rattle.phase_accum.specs.Values.{value_by}
+use Rattle.phase_accum.specs.declared.outcome.Outcome.{Outcome}
+use Rattle.phase_accum.specs.declared.outcome.Outcome.TheVariants as outcome
+use Rattle.phase_history.specs.declared.event.Event.TheVariants.{Made}
+use Rattle.phase_accum.specs.declared.single.Single.{Single}
+use Rattle.phase_history.specs.declared.call.Call.{Call}
+use Rattle.phase_history.specs.declared.call.Call.TheVariants as call
+use Rattle.phase_history.specs.declared.got.Got.TheVariants as got
+use Rattle.phase_history.specs.declared.got.GotBlock.TheVariants as block
+use Rattle.phase_history.specs.declared.refusal.NoTask.{NoTask}
+use Rattle.phase_history.specs.declared.refusal.RegisterRefusal.{RegisterRefusal}
+use Rattle.phase_history.specs.declared.refusal.RegisterRefusal.TheVariants as register
+use Rattle.phase_history.specs.declared.refusal.SignalRefusal.{SignalRefusal}
+use Rattle.phase_history.specs.declared.refusal.SignalRefusal.TheVariants as signal
+use Rattle.phase_history.specs.declared.refusal.WaitRefusal.{WaitRefusal}
+use Rattle.phase_history.specs.declared.refusal.WaitRefusal.TheVariants as wait
+use Rattle.phase_history.specs.Histories.{History, members_of}
+use Rattle.phase_history.specs.declared.reply.Reply.{Reply as CallReply}
+use Rattle.phase_history.specs.declared.reply.Reply.TheVariants as call_reply
+use Rattle.phase_history.specs.Refusals.{refusal_at, drop_refusal}
+use Rattle.phase_base.specs.Lists.{first_row}
 use Rattle.phase_core.specs.Blocks.{one_each}
-use Rattle.phase_core.specs.phase_history.Phases.{stream_of}
-use Rattle.phase_core.specs.phase_history.Replies.{reply_to as reply_to_call, after_reply, signal_reply}
-use Rattle.phase_core.specs.phase_base.declared.operation.Op.{Op}
+use Rattle.phase_history.specs.Phases.{stream_of}
+use Rattle.phase_history.specs.Replies.{reply_to as reply_to_call, after_reply, signal_reply}
+use Rattle.phase_base.specs.declared.operation.Op.{Op}
 use Rattle.phase_script.specs.Commands.{WholeCommand, Make, Add, Now, Send, Signal, Block, Wait, Take, Drop, command_of}
 use Rattle.phase_script.specs.declared.refusal.Refusal.{Refusal}
 use Rattle.phase_script.specs.declared.refusal.Refusal.TheVariants as no

@@ -1,18 +1,18 @@
 -- The scripts that a session stands for.
 use Rattle.std.specs.Prelude.{◌≡◌, ℕ, List, Option, Some, None}
 use Rattle.std.specs.Global.{Global}
-use Rattle.phase_core.specs.phase_base.Limits.{Limits}
-use Rattle.phase_script.specs.phase_accum.Operations.{Operation}
-use Rattle.phase_script.specs.phase_accum.Parcels.{StandsForSends}
-use Rattle.phase_script.specs.phase_accum.Sums.{sum_operation}
-use Rattle.phase_script.specs.phase_accum.Products.{product_operation}
-use Rattle.phase_script.specs.phase_accum.Leasts.{least_operation}
-use Rattle.phase_script.specs.phase_accum.Greatests.{greatest_operation}
-use Rattle.phase_script.specs.phase_accum.Anys.{any_operation}
-use Rattle.phase_core.specs.phase_history.Histories.{History}
+use Rattle.phase_base.specs.Limits.{Limits}
+use Rattle.phase_accum.specs.Operations.{Operation}
+use Rattle.phase_accum.specs.Parcels.{StandsForSends}
+use Rattle.phase_accum.specs.Sums.{sum_operation}
+use Rattle.phase_accum.specs.Products.{product_operation}
+use Rattle.phase_accum.specs.Leasts.{least_operation}
+use Rattle.phase_accum.specs.Greatests.{greatest_operation}
+use Rattle.phase_accum.specs.Anys.{any_operation}
+use Rattle.phase_history.specs.Histories.{History}
 use Rattle.phase_core.specs.Cores.{StandsFor}
-use Rattle.phase_core.specs.phase_base.declared.operation.Op.{Op}
-use Rattle.phase_core.specs.phase_base.declared.operation.Op.TheVariants.{Sum, Product, Least, Greatest, Any}
+use Rattle.phase_base.specs.declared.operation.Op.{Op}
+use Rattle.phase_base.specs.declared.operation.Op.TheVariants.{Sum, Product, Least, Greatest, Any}
 use Rattle.phase_replay.specs.declared.script_phaser.ScriptPhaser.{ScriptPhaser}
 use Rattle.phase_replay.specs.declared.any_phaser.AnyPhaser.{AnyPhaser}
 use Rattle.phase_replay.specs.declared.any_phaser.AnyPhaser.TheVariants as phaser

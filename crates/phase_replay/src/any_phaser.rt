@@ -1,15 +1,15 @@
 //! A session's phaser, under any of the operations.
 ghost use Rattle.std.specs.Prelude.{◌≡◌, [], ◌∷◌, IfOk, OnOk, OnErr};
-ghost use Rattle.phase_core.specs.phase_base.Limits.{Limits};
-ghost use Rattle.phase_script.specs.phase_accum.Values.{value_by};
-ghost use Rattle.phase_core.specs.phase_history.Histories.{History};
+ghost use Rattle.phase_base.specs.Limits.{Limits};
+ghost use Rattle.phase_accum.specs.Values.{value_by};
+ghost use Rattle.phase_history.specs.Histories.{History};
 ghost use Rattle.phase_script.specs.Commands.{whole_command, IsCommand};
 ghost use Rattle.phase_script.specs.ReplyLines.{whole_reply};
 ghost use Rattle.phase_replay.specs.Scripts.{Held, IsOkReply, MayWantMemory, phaser_reply, history_after, held_after};
 
 use crate::script_phaser::ScriptPhaser;
-use phase_core::phase_base::Spec;
-use phase_script::phase_accum::{Any, Greatest, Least, Product, Sum};
+use phase_accum::{Any, Greatest, Least, Product, Sum};
+use phase_base::Spec;
 use phase_script::{Command, Op, Outcomes, Reply, Values};
 use std::alloc::{AllocError, Global};
 
@@ -24,7 +24,7 @@ pub enum AnyPhaser {
 
 #[tactic(auto, unfolding(crate::specs::Session::AnyStandsFor))]
 impl AnyPhaser {
-    ghost use Rattle.phase_core.specs.phase_history.declared.event.Event.TheVariants.{Made};
+    ghost use Rattle.phase_history.specs.declared.event.Event.TheVariants.{Made};
     ghost use Rattle.phase_replay.specs.Session.{AnyStandsFor};
 
     /// Makes a phaser whose founder, task 0, holds no sends.

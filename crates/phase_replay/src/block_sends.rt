@@ -3,9 +3,9 @@ ghost use Rattle.std.specs.Prelude.{◌≡◌, [], IfOk};
 ghost use Rattle.phase_core.specs.Blocks.{StandForLists, one_each};
 ghost use Rattle.phase_script.specs.Commands.{IsBlock};
 
+use phase_accum::{Accumulate, Pending};
 use phase_core::hold_each;
 use phase_script::VALUES_MAX;
-use phase_script::phase_accum::{Accumulate, Pending};
 use std::alloc::{AllocError, Global};
 use std::marker::Model;
 
@@ -18,7 +18,7 @@ pub struct BlockSends<A: Accumulate> {
 
 impl<A: Accumulate> Model for BlockSends<A> {
     ghost use Rattle.std.specs.Prelude.{◌≡◌, ◌≤◌, List, length, take};
-    ghost use Rattle.phase_script.specs.phase_accum.Parcels.{Parcel};
+    ghost use Rattle.phase_accum.specs.Parcels.{Parcel};
     ghost use Rattle.phase_script.specs.declared.values.TheConstants.{VALUES_MAX};
 
     ghost Value = { List (Parcel A) };

@@ -2,7 +2,7 @@
 ghost use Rattle.std.specs.Prelude.{◌≡◌, ℕ, [], OnOk, OnErr, if◌then◌else◌, ◌==◌};
 ghost use Rattle.phase_replay.specs.HeldSends.{held_at, nothing};
 
-use phase_script::phase_accum::{Accumulate, Pending};
+use phase_accum::{Accumulate, Pending};
 use std::alloc::{AllocError, Global};
 use std::collections::HashMap;
 use std::marker::Model;

@@ -22,13 +22,8 @@ mod strict;
 mod whole;
 
 pub use file_replay::{replay_file_and_report, replay_file_strictly};
-pub use phase_core::phase_base;
-pub use phase_script;
-pub use phase_script::{
-    Command, Op, Outcomes, Refusal, Reply, ReplyLine, Values, phase_accum, read,
-};
+pub use phase_script::{Command, Op, Outcomes, Refusal, Reply, ReplyLine, Values, read};
 pub use replayed::replay_and_report;
 pub use session::Session;
-pub use watched_io;
 pub use watched_io::{IoFault as ReplayFault, ReadFailed, Watched, WriteFailed};
 pub use whole::{PIECE_MAX, SCRIPT_MAX, replay};

@@ -1,11 +1,11 @@
 //! The phaser of a session, with the sends that its tasks hold.
 ghost use Rattle.std.specs.Prelude.{◌≡◌, ◌≢◌, ◌≤◌, length, List, [], ◌∷◌, IfOk, OnOk, OnErr, Some, None};
-ghost use Rattle.phase_core.specs.phase_base.Limits.{Limits};
-ghost use Rattle.phase_script.specs.phase_accum.Sends.{IsSend};
-ghost use Rattle.phase_core.specs.phase_history.declared.call.Call.TheVariants as call;
-ghost use Rattle.phase_core.specs.phase_history.Histories.{History};
-ghost use Rattle.phase_core.specs.phase_history.Refusals.{drop_refusal};
-ghost use Rattle.phase_core.specs.phase_history.Replies.{reply_to, signal_reply};
+ghost use Rattle.phase_base.specs.Limits.{Limits};
+ghost use Rattle.phase_accum.specs.Sends.{IsSend};
+ghost use Rattle.phase_history.specs.declared.call.Call.TheVariants as call;
+ghost use Rattle.phase_history.specs.Histories.{History};
+ghost use Rattle.phase_history.specs.Refusals.{drop_refusal};
+ghost use Rattle.phase_history.specs.Replies.{reply_to, signal_reply};
 ghost use Rattle.phase_script.specs.Commands.{whole_command, IsCommand, IsBlock};
 ghost use Rattle.phase_script.specs.ReplyLines.{whole_reply, Tells, Values};
 ghost use Rattle.phase_script.specs.declared.values.TheConstants.{VALUES_MAX};
@@ -13,9 +13,9 @@ ghost use Rattle.phase_replay.specs.Scripts.{Held, held_by, send_reply, held_aft
 
 use crate::block_sends::BlockSends;
 use crate::held_sends::HeldSends;
-use phase_core::phase_base::{Mode, Spec};
+use phase_accum::{Accumulate, Outcome, SendFault, Single};
+use phase_base::{Mode, Spec};
 use phase_core::{Got, GotBlock, PhaserCore, RegisterRefusal, SignalRefusal, WaitRefusal};
-use phase_script::phase_accum::{Accumulate, Outcome, SendFault, Single};
 use phase_script::{Command, Outcomes, Refusal, Reply, VALUES_MAX, Values};
 use std::alloc::{AllocError, Global};
 
@@ -98,7 +98,7 @@ fn keep(places: &[Outcome], outcomes: &mut Outcomes)
 }
 
 impl<A: Accumulate> ScriptPhaser<A> {
-    ghost use Rattle.phase_core.specs.phase_history.declared.event.Event.TheVariants.{Made};
+    ghost use Rattle.phase_history.specs.declared.event.Event.TheVariants.{Made};
     ghost use Rattle.phase_replay.specs.Session.{ScriptPhaserStandsFor};
 
     /// Makes a phaser whose founder, task 0, holds no sends.

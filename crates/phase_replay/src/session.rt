@@ -7,7 +7,7 @@ ghost use Rattle.phase_replay.specs.Scripts.{ScriptState, start, reply_line_of, 
 ghost use Rattle.phase_replay.specs.Session.{MaybeStandsFor};
 
 use crate::any_phaser::AnyPhaser;
-use phase_core::phase_base::{Spec, SpecFault};
+use phase_base::{Spec, SpecFault};
 use phase_script::{Command, Outcomes, Refusal, Reply, ReplyLine, Values, read};
 use std::alloc::{AllocError, Global};
 use std::marker::Model;

@@ -12,7 +12,7 @@ use Rattle.phase_accum.specs.declared.outcome.Outcome.TheVariants.{Value, Empty,
 use Rattle.std.proofs.lemmas.Bool.{cases_eq, cases_lt, ltb-false}
 use Rattle.phase_accum.specs.declared.single.Single.{Single}
 use Rattle.phase_accum.specs.Singles.{differs}
-use Rattle.phase_accum.specs.phase_base.declared.limits.TheConstants.{PHASES_MAX, SENDS_MAX}
+use Rattle.phase_base.specs.declared.limits.TheConstants.{PHASES_MAX, SENDS_MAX}
 use Rattle.phase_accum.specs.Operations.{Operation, AccumulateLaws}
 use Rattle.phase_accum.specs.Parcels.{Parcel, parcel, StandsForSends}
 use Rattle.phase_accum.proofs.Parts.{StandsForSends-append}

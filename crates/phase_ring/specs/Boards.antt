@@ -1,6 +1,6 @@
 -- What holds of a board between any two steps of a call, while a waiter is registered.
 use Rattle.std.specs.Prelude.{◌≡◌, ℕ, ◌+◌, ◌<◌, ◌≤◌, Some, length, nat_lt}
-use Rattle.phase_accum.specs.phase_base.declared.limits.TheConstants.{PHASES_MAX}
+use Rattle.phase_base.specs.declared.limits.TheConstants.{PHASES_MAX}
 use Rattle.phase_accum.specs.Operations.{Operation}
 use Rattle.phase_ring.specs.declared.board.Board.{Board}
 use Rattle.phase_ring.specs.declared.role.Role.TheVariants.{Signaller, Waiter}

@@ -1,6 +1,6 @@
 -- What a board asks of the call that moves a signaller on.
 use Rattle.std.specs.Prelude.{ℕ, ◌<◌, ◌≤◌}
-use Rattle.phase_accum.specs.phase_base.declared.limits.TheConstants.{MEMBERS_MAX}
+use Rattle.phase_base.specs.declared.limits.TheConstants.{MEMBERS_MAX}
 use Rattle.phase_ring.specs.declared.board.Board.{Board}
 use Rattle.phase_ring.specs.declared.role.Role.TheVariants.{Signaller}
 use Rattle.phase_ring.specs.Rings.{standing}

@@ -1,7 +1,7 @@
 -- What a ring keeps of one phase.
 use Rattle.std.specs.Prelude.{◌≡◌, ℕ, ℤ, ◌+◌, List, Option, Some, None, Bool, true, false, if◌then◌else◌, nat_lt}
 use Rattle.std.specs.Option.{option_and_then}
-use Rattle.phase_accum.specs.phase_base.declared.limits.TheConstants.{SENDS_MAX}
+use Rattle.phase_base.specs.declared.limits.TheConstants.{SENDS_MAX}
 use Rattle.phase_accum.specs.declared.outcome.Outcome.{Outcome}
 use Rattle.phase_accum.specs.declared.single.Single.{Single}
 use Rattle.phase_accum.specs.Singles.{differs}

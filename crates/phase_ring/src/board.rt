@@ -16,8 +16,8 @@ ghost use Rattle.phase_ring.specs.GoingOn.{MayGoOn};
 
 use crate::role::Role;
 use crate::slot_ring::SlotRing;
-use phase_accum::phase_base::{Entry, MEMBERS_MAX, PHASES_MAX, Spec};
-use phase_accum::{self, Accumulate, Outcome, Pending, Single};
+use phase_accum::{Accumulate, Outcome, Pending, Single};
+use phase_base::{Entry, MEMBERS_MAX, PHASES_MAX, Spec};
 use std::alloc::{AllocError, Global};
 
 /// The phases that are kept while a waiter is registered, and which of them are complete.

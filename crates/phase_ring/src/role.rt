@@ -2,7 +2,7 @@
 ghost use Rattle.std.specs.Prelude.{◌≡◌};
 ghost use Rattle.phase_ring.specs.Standings.{takes_part, phase_for};
 
-use phase_accum::phase_base::Entry;
+use phase_base::Entry;
 
 /// In which of its two ways a task stands at a phase.
 #[derive(Clone, Copy, Debug, PartialEq, Eq)]

@@ -4,8 +4,8 @@ ghost use Rattle.phase_accum.specs.Singles.{differs};
 
 use crate::choice::{Choice, choice_for, told};
 use crate::role::Role;
-use phase_accum::phase_base::{MEMBERS_MAX, SENDS_MAX};
-use phase_accum::{self, Accumulate, Outcome, Pending, Single};
+use phase_accum::{Accumulate, Outcome, Pending, Single};
+use phase_base::{MEMBERS_MAX, SENDS_MAX};
 use std::marker::Model;
 
 /// Why sends were not joined to those of a phase.

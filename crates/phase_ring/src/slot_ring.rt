@@ -10,8 +10,8 @@ ghost use Rattle.phase_ring.specs.Rings.{Ring, ring, standing, IsWithin, slot_at
 use crate::role::Role;
 use crate::slot::{MergeRefusal, Slot};
 use circular_buffer::HeapCircularBuffer;
-use phase_accum::phase_base::{BOUND_MAX, MEMBERS_MAX, SENDS_MAX};
 use phase_accum::{Accumulate, Outcome, Pending, Single};
+use phase_base::{BOUND_MAX, MEMBERS_MAX, SENDS_MAX};
 use std::alloc::{AllocError, Global};
 use std::marker::Model;
 

@@ -4,7 +4,7 @@ use Rattle.std.proofs.lemmas.Bool.{ne_eqb, cases_eq}
 use Rattle.std.proofs.lemmas.List.Elements.{All-nil, All-cons, All-head, All-tail}
 use Rattle.std.specs.List.{All}
 use Rattle.phase_script.specs.Lines.{last_line, lines_after, lines_of}
-use Rattle.phase_accum.specs.phase_base.Lists.{without_cr}
+use Rattle.phase_base.specs.Lists.{without_cr}
 use Rattle.phase_script.specs.Cuts.{HasNoLf, ended, IsCut, LinesAreCutAtLf, EveryScriptIsCut}
 
 abbrev is_other : ℕ → Type 0

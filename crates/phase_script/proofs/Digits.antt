@@ -7,7 +7,7 @@ use Rattle.std.specs.Fmt.{signed_decimal}
 use Rattle.std.specs.List.{list_all}
 use Rattle.std.specs.Str.{all_ascii_digits}
 use Rattle.std.specs.Str.Parse.{digits_value}
-use Rattle.phase_accum.proofs.phase_base_lemmas.Numbers as numbers
+use Rattle.phase_base.proofs.Numbers as numbers
 use Rattle.phase_script.specs.Numbers.{most, nat_of, int_of}
 
 -- a number that is read is the word's text, and within the limit

@@ -9,19 +9,19 @@ use Rattle.std.proofs.lemmas.Slice.Eq.{bytes_eq-Decides}
 use Rattle.std.proofs.lemmas.List.{length-append, append-nil}
 use Rattle.std.specs.Fmt.{signed_decimal}
 use Rattle.phase_script.proofs.Digits.{nat_found, nat_only, int_found, int_only, decimal_has_no_space, signed_has_no_space, decimal_short, signed_short}
-use Rattle.phase_accum.specs.phase_base.OperationWords.{operation_word, operation_of}
-use Rattle.phase_accum.proofs.phase_base_lemmas.OperationWords.{operation-read}
+use Rattle.phase_base.specs.OperationWords.{operation_word, operation_of}
+use Rattle.phase_base.proofs.OperationWords.{operation-read}
 use Rattle.phase_script.specs.Numbers.{most, nat_of, int_of}
 use Rattle.phase_script.specs.Words.{word, rest, words_of, longer_by}
-use Rattle.phase_accum.specs.phase_base.declared.mode.Mode.{Mode}
-use Rattle.phase_accum.specs.phase_base.declared.mode.Mode.TheVariants as mode
+use Rattle.phase_base.specs.declared.mode.Mode.{Mode}
+use Rattle.phase_base.specs.declared.mode.Mode.TheVariants as mode
 use Rattle.phase_accum.specs.Ranges.{IsRange}
 use Rattle.phase_accum.specs.Singles.{CanBeNamed}
 use Rattle.phase_accum.specs.declared.single.Single.{Single}
 use Rattle.phase_accum.specs.declared.single.Single.TheVariants.{Neg, Abs, Halve, Clamp}
 use Rattle.phase_script.specs.Commands.{IsCommand, IsBlock, spelling, values_text, mode_text, single_text, maybe_single_text, mode_of, clamp_of, ends_of, clamp_after, single_of, make_of, add_of, now_of, send_of, signal_of, signal_with, ints_of, few_values, values_of, block_of, take_with, take_of, wait_of, drop_of, command_after, command_of, WholeCommand, whole_command, maybe_whole, Make, Add, Now, Send, Signal, Block, Wait, Take, Drop}
-use Rattle.phase_accum.specs.phase_base.declared.operation.Op.{Op}
-use Rattle.phase_accum.specs.phase_base.declared.operation.Op.TheVariants.{Sum, Product, Least, Greatest, Any}
+use Rattle.phase_base.specs.declared.operation.Op.{Op}
+use Rattle.phase_base.specs.declared.operation.Op.TheVariants.{Sum, Product, Least, Greatest, Any}
 use Rattle.phase_script.specs.declared.command.Command.{Command}
 
 -- words

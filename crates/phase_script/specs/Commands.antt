@@ -2,15 +2,15 @@
 use Rattle.std.specs.Prelude.{ℕ, ◌≤◌, ℤ, List, [], ◌∷◌, ◌++◌, length, codes, decimal, nat_abs, bytes_eq, int_le, nat_le, ◌&&◌, if◌then◌else◌, Option, Some, None, option_and_then}
 use Rattle.std.specs.Fmt.{signed_decimal}
 use Rattle.std.specs.List.{All}
-use Rattle.phase_accum.specs.phase_base.declared.mode.Mode.{Mode}
-use Rattle.phase_accum.specs.phase_base.declared.mode.Mode.TheVariants as mode
+use Rattle.phase_base.specs.declared.mode.Mode.{Mode}
+use Rattle.phase_base.specs.declared.mode.Mode.TheVariants as mode
 use Rattle.phase_accum.specs.Singles.{CanBeNamed}
 use Rattle.phase_accum.specs.declared.single.Single.{Single}
 use Rattle.phase_accum.specs.declared.single.Single.TheVariants.{Neg, Abs, Halve, Clamp}
 use Rattle.phase_script.specs.Numbers.{most, nat_of, int_of}
 use Rattle.phase_script.specs.Words.{word, rest, words_of}
-use Rattle.phase_accum.specs.phase_base.declared.operation.Op.{Op}
-use Rattle.phase_accum.specs.phase_base.OperationWords.{operation_word, operation_of}
+use Rattle.phase_base.specs.declared.operation.Op.{Op}
+use Rattle.phase_base.specs.OperationWords.{operation_word, operation_of}
 use Rattle.phase_script.specs.declared.command.Command.{Command}
 use Rattle.phase_script.specs.declared.command.Command.TheVariants as read
 use Rattle.phase_script.specs.declared.values.TheConstants.{VALUES_MAX}

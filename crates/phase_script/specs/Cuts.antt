@@ -2,7 +2,7 @@
 use Rattle.std.specs.Prelude.{◌≡◌, ◌≢◌, ℕ, List, [], ◌∷◌, ◌++◌, map}
 use Rattle.std.specs.List.{All, flat_map}
 use Rattle.phase_script.specs.Lines.{last_line, lines_of}
-use Rattle.phase_accum.specs.phase_base.Lists.{without_cr}
+use Rattle.phase_base.specs.Lists.{without_cr}
 
 -- no byte is an LF
 abbrev pub HasNoLf : List ℕ → Type 0

@@ -1,6 +1,6 @@
 -- The lines of a script: its pieces that end at an LF, and a last piece with none, if not empty.
 use Rattle.std.specs.Prelude.{ℕ, ◌-◌, ◌==◌, if◌then◌else◌, List, [], ◌∷◌, ◌++◌, length, take, slice_index}
-use Rattle.phase_accum.specs.phase_base.Lists.{without_cr}
+use Rattle.phase_base.specs.Lists.{without_cr}
 
 -- a last piece is a line where it is not empty
 abbrev pub last_line : List ℕ → List (List ℕ)

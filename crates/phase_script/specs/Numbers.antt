@@ -1,6 +1,6 @@
 -- The numbers of a script line. Their text is std's `decimal` and `signed_decimal`.
 use Rattle.std.specs.Prelude.{ℕ, ℤ, List, Option}
-use Rattle.phase_accum.specs.phase_base.Numbers.{nat_within, int_within}
+use Rattle.phase_base.specs.Numbers.{nat_within, int_within}
 
 -- the greatest number of a script, and the greatest magnitude
 abbrev pub most : ℕ

@@ -1,7 +1,7 @@
 //! The commands that a script line can give.
 
-use phase_accum::phase_base::Mode;
 use phase_accum::{Op, Single};
+use phase_base::Mode;
 
 /// What a script line asks for. Task 0 is the founder. The values of a block stand beside it, in
 /// `Values`.

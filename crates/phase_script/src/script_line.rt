@@ -9,8 +9,8 @@ ghost use Rattle.phase_script.specs.Commands.{WholeCommand, whole_command, maybe
 
 use crate::{Command, VALUES_MAX, Values};
 use number::{int, nat};
-use phase_accum::phase_base::Mode;
 use phase_accum::{Op, Single};
+use phase_base::Mode;
 use words::cut;
 
 /// The bytes of the longest line of the grammar, a `block` of `VALUES_MAX` values.

@@ -8,14 +8,14 @@ use mathlib.Core.Option.{some}
 use lib.ListN.{get_elem?}
 use Rattle.atomic_table.proofs.Lists.{set_again, set_else}
 use Rattle.phase_shared.specs.Phasers.{Limits, entry_of, least, Operation, Parcel, StandsForSends, Outcome, SignalRefusal, History, members_of, signal_phase, wait_phase, done_of, value_of_phase, IsLegal, OthersCame, signal_refusal, refusal_at, refused_or, got_at}
-use Rattle.phase_core.specs.phase_base.Members.{wait_phases}
-use Rattle.phase_core.specs.phase_history.declared.event.Event.TheVariants.{Made, Registered, RegisteredNow, Signalled, Waited, Dropped}
-use Rattle.phase_core.specs.phase_history.declared.got.Got.TheVariants as got
-use Rattle.phase_core.specs.phase_history.declared.refusal.SignalRefusal.TheVariants as signal
-use Rattle.phase_core.specs.phase_history.Phases.{sends_of_phase, named_in_phase}
-use Rattle.phase_core.specs.phase_history.Refusals.{signal_rows_before, phase_rows}
-use Rattle.phase_core.proofs.phase_history_lemmas.Steps.{steps, sound_of}
-use Rattle.phase_core.proofs.phase_history_lemmas.Used.{IsLegal-beginning}
+use Rattle.phase_base.specs.Members.{wait_phases}
+use Rattle.phase_history.specs.declared.event.Event.TheVariants.{Made, Registered, RegisteredNow, Signalled, Waited, Dropped}
+use Rattle.phase_history.specs.declared.got.Got.TheVariants as got
+use Rattle.phase_history.specs.declared.refusal.SignalRefusal.TheVariants as signal
+use Rattle.phase_history.specs.Phases.{sends_of_phase, named_in_phase}
+use Rattle.phase_history.specs.Refusals.{signal_rows_before, phase_rows}
+use Rattle.phase_history.proofs.Steps.{steps, sound_of}
+use Rattle.phase_history.proofs.Used.{IsLegal-beginning}
 use Rattle.phase_shared.specs.declared.seats.view.Knowledge.{Knowledge}
 use Rattle.phase_shared.specs.Goods.{Allows, Keeps}
 use Rattle.phase_shared.specs.Views.{Holds, knowledge, is_turning}

@@ -3,7 +3,7 @@ use Rattle.std.proofs.Common.{◌≡◌, ℕ, List, [], ◌∷◌, None, set, sl
 use mathlib.Core.Option.{some}
 use Rattle.turn_lock.specs.WordSteps.{TakesOf, LooksOf, ReadsOf, ReadsIn}
 use Rattle.phase_shared.specs.Phasers.{Limits, Operation, Outcome, History, value_of_phase, CoreState}
-use Rattle.phase_core.specs.phase_history.declared.event.Event.TheVariants.{Waited}
+use Rattle.phase_history.specs.declared.event.Event.TheVariants.{Waited}
 use Rattle.phase_shared.specs.declared.seats.view.Knowledge.{Knowledge}
 use Rattle.phase_shared.specs.Asks.{Ask}
 use Rattle.phase_shared.specs.Desks.{View, Resting, Turning, Reading}

@@ -5,14 +5,14 @@ use Rattle.std.proofs.lemmas.Bool.{le-ltb}
 use Rattle.std.specs.Prelude.{Result, Ok, Err, IsErr, is_some}
 use Rattle.std.proofs.lemmas.Option.{same_Some}
 use Rattle.phase_shared.specs.Phasers.{Limits, is_in, Entry, mode_signals, mode_waits, entry_of, signalled, waited, Operation, Outcome, Event, Got, SignalRefusal, History, HasNoSignaller, IsAlive, members_of, signal_phase, wait_phase, done_of, value_of_phase, wait_refusal, wait_reply, got_at, IsLegal, OthersCame, refused_or, CoreState}
-use Rattle.phase_core.specs.phase_history.declared.event.Event.TheVariants.{Signalled, Waited}
-use Rattle.phase_core.specs.phase_history.declared.got.Got.TheVariants as got
-use Rattle.phase_core.specs.phase_history.declared.refusal.SignalRefusal.TheVariants as signal
-use Rattle.phase_core.specs.phase_base.declared.member.Member.{Member}
-use Rattle.phase_core.proofs.phase_history_lemmas.Each.{Each, Each-of_picked}
-use Rattle.phase_core.proofs.phase_history_lemmas.Answered.{ended_tells, signal_refusal-never}
-use Rattle.phase_core.proofs.phase_history_lemmas.MemberLemmas.{Each-entry, entry_of-changed_same}
-use Rattle.phase_core.proofs.phase_history_lemmas.Used.{IsLegal-beginning}
+use Rattle.phase_history.specs.declared.event.Event.TheVariants.{Signalled, Waited}
+use Rattle.phase_history.specs.declared.got.Got.TheVariants as got
+use Rattle.phase_history.specs.declared.refusal.SignalRefusal.TheVariants as signal
+use Rattle.phase_base.specs.declared.member.Member.{Member}
+use Rattle.phase_history.proofs.Each.{Each, Each-of_picked}
+use Rattle.phase_history.proofs.Answered.{ended_tells, signal_refusal-never}
+use Rattle.phase_history.proofs.MemberLemmas.{Each-entry, entry_of-changed_same}
+use Rattle.phase_history.proofs.Used.{IsLegal-beginning}
 use Rattle.phase_shared.specs.declared.next.Next.{Next}
 use Rattle.phase_shared.specs.declared.rule.Terms.{Terms}
 use Rattle.phase_shared.specs.declared.seats.request.Request.{Request}

@@ -6,7 +6,7 @@ use lib.ListN.{get_elem?}
 use Rattle.atomic_table.proofs.Lists.{set_here}
 use Rattle.turn_lock.proofs.Keeping.{within, not_both}
 use Rattle.phase_shared.specs.Phasers.{Limits, Outcome, History, IsLegal, events_of, OthersCame}
-use Rattle.phase_core.proofs.phase_history_lemmas.Used.{entry_of-others}
+use Rattle.phase_history.proofs.Used.{entry_of-others}
 use Rattle.phase_shared.specs.declared.seats.view.Knowledge.{Knowledge}
 use Rattle.phase_shared.specs.Goods.{Allows}
 use Rattle.phase_shared.specs.Views.{Lane, Unknown, Free, Own, Holds, speaks_of, known_of, is_turning}

@@ -5,7 +5,7 @@ use Rattle.std.proofs.lemmas.Option.{same_Some}
 use Rattle.turn_lock.specs.Seats.{seat_place, seat_view}
 use Rattle.turn_lock.specs.declared.seat.Seat.{Seat}
 use Rattle.phase_shared.specs.Phasers.{Entry, History, Operation, Outcome, Parcel, SignalRefusal, StandsForSends, entry_of, members_of, mode_signals, mode_waits}
-use Rattle.phase_core.specs.phase_history.declared.got.Got.TheVariants.{Value}
+use Rattle.phase_history.specs.declared.got.Got.TheVariants.{Value}
 use Rattle.phase_shared.specs.Asked.{IsAsked, HasGone, HasTakenBack, entry_gone, entry_signalled}
 use Rattle.phase_shared.specs.LockedPhasers.{locked_place, locked_terms}
 use Rattle.phase_shared.specs.Regs.{RegState, reg_state, IsReg}

@@ -6,15 +6,15 @@ use Rattle.std.proofs.lemmas.List.{length-take-le, length-drop, length-append}
 use Rattle.std.proofs.lemmas.List.FromFn.{length-map-range_with_len}
 use Rattle.std.proofs.Math.Seq.{take-append_seam}
 use Rattle.phase_shared.specs.Phasers.{Limits, entry_of, Entry, Operation, Parcel, Outcome, Single, SignalRefusal, WaitRefusal, History, HasNoSignaller, members_of, founder, done_of, start_of, entry_at, signal_phase, wait_phase, IsLegal, HasNoEvents, received_by, stream_of, sent_by, signal_reply, after_signal, StandForLists}
-use Rattle.phase_core.specs.phase_base.declared.mode.Mode.TheVariants.{Wait}
-use Rattle.phase_core.specs.phase_accum.declared.outcome.Outcome.TheVariants.{Empty}
-use Rattle.phase_core.specs.phase_history.declared.event.Event.TheVariants.{RegisteredNow}
-use Rattle.phase_core.specs.phase_history.declared.got.GotBlock.TheVariants.{Values, Ended}
-use Rattle.phase_core.proofs.phase_history_lemmas.Answered.{block_ended_tells}
-use Rattle.phase_core.proofs.phase_history_lemmas.BlockAnswers.{block_answers_law}
-use Rattle.phase_core.proofs.phase_history_lemmas.Gathered.{no_lists}
-use Rattle.phase_core.proofs.phase_history_lemmas.LawProofs.{above_law}
-use Rattle.phase_core.proofs.phase_history_lemmas.Sendings.{length-sent_by}
+use Rattle.phase_base.specs.declared.mode.Mode.TheVariants.{Wait}
+use Rattle.phase_accum.specs.declared.outcome.Outcome.TheVariants.{Empty}
+use Rattle.phase_history.specs.declared.event.Event.TheVariants.{RegisteredNow}
+use Rattle.phase_history.specs.declared.got.GotBlock.TheVariants.{Values, Ended}
+use Rattle.phase_history.proofs.Answered.{block_ended_tells}
+use Rattle.phase_history.proofs.BlockAnswers.{block_answers_law}
+use Rattle.phase_history.proofs.Gathered.{no_lists}
+use Rattle.phase_history.proofs.LawProofs.{above_law}
+use Rattle.phase_history.proofs.Sendings.{length-sent_by}
 use Rattle.phase_shared.specs.Calls.{Signals}
 use Rattle.phase_shared.specs.Blocks.{SignalsBlock, WaitsBlock}
 use Rattle.phase_shared.specs.Joins.{HasRegisteredNow}

@@ -3,9 +3,9 @@ use Rattle.std.proofs.Common.{◌≡◌, ℕ, ℤ, List, length, Option, Some, r
 use Rattle.std.specs.Prelude.{Ok, Err, Result}
 use Rattle.std.specs.Result.{result_ok}
 use Rattle.phase_shared.specs.Phasers.{entry_of, signalled, waited, Entry, Single, GotBlock, SignalRefusal, WaitRefusal, History, members_of, after_signal, after_wait_block}
-use Rattle.phase_core.specs.phase_history.declared.event.Event.TheVariants.{Signalled, Waited}
-use Rattle.phase_core.specs.phase_history.declared.got.GotBlock.TheVariants as block
-use Rattle.phase_core.proofs.phase_history_lemmas.MemberLemmas.{entry_of-changed_same}
+use Rattle.phase_history.specs.declared.event.Event.TheVariants.{Signalled, Waited}
+use Rattle.phase_history.specs.declared.got.GotBlock.TheVariants as block
+use Rattle.phase_history.proofs.MemberLemmas.{entry_of-changed_same}
 use Rattle.phase_shared.specs.Rule.{Allows, Keeps}
 use Rattle.phase_shared.specs.Blocks.{entry_after_block, entry_after_values}
 use Rattle.phase_shared.proofs.Giving.{OwnCame, own_event}

@@ -1,6 +1,6 @@
 -- What holds at a call's terms, and at its phaser's, which are the same.
 use Rattle.std.proofs.Common.{◌≡◌, Option, sym, subst}
-use Rattle.phase_core.specs.phase_base.Limits.{Limits}
+use Rattle.phase_base.specs.Limits.{Limits}
 use Rattle.phase_shared.specs.declared.rule.Terms.{Terms}
 use Rattle.phase_shared.specs.Goods.{Allows, allows_or}
 use Rattle.phase_shared.specs.LockedPhasers.{some_terms}

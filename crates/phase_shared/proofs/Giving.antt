@@ -10,8 +10,8 @@ use Rattle.phase_shared.specs.Views.{Unknown, lane_at_rest, knowledge, resting, 
 use Rattle.phase_shared.specs.Rule.{Allows, IsGoodAt, IsOneHistory, HasOneHistory, StandsWithin, TookAt, IsSeatOfTask, AfterTake, Keeps}
 use Rattle.phase_shared.specs.declared.seats.view.Ask.{Ask}
 use Rattle.phase_shared.specs.Steps.{GivesNoAnswer}
-use Rattle.phase_core.proofs.phase_history_lemmas.OthersEvents.{OthersCame-refl}
-use Rattle.phase_core.proofs.phase_history_lemmas.Used.{IsUsed-member, IsUsed-longer, entry_of-others}
+use Rattle.phase_history.proofs.OthersEvents.{OthersCame-refl}
+use Rattle.phase_history.proofs.Used.{IsUsed-member, IsUsed-longer, entry_of-others}
 use Rattle.phase_shared.proofs.Small.{one_of, or_false, is_in_self, apart_phases}
 use Rattle.phase_shared.proofs.Stages.{wait_is}
 use Rattle.phase_shared.proofs.GivingAsks.{no_lane}

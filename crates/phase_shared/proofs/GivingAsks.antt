@@ -8,8 +8,8 @@ use lib.ListN.{get_elem?}
 use Rattle.atomic_table.proofs.Lists.{at_set, set_here}
 use Rattle.turn_lock.proofs.Keeping.{within, not_both}
 use Rattle.phase_shared.specs.Phasers.{Limits, is_distinct, is_in, Outcome, History, done_of, value_of_phase, IsUsed, events_of, OthersCame}
-use Rattle.phase_core.proofs.phase_history_lemmas.Used.{IsUsed-longer}
-use Rattle.phase_core.proofs.phase_history_lemmas.OthersEvents.{OthersCame-refl, OthersCame-trans}
+use Rattle.phase_history.proofs.Used.{IsUsed-longer}
+use Rattle.phase_history.proofs.OthersEvents.{OthersCame-refl, OthersCame-trans}
 use Rattle.phase_shared.specs.declared.seats.view.Knowledge.{Knowledge}
 use Rattle.phase_shared.specs.Views.{Lane, Unknown, Holds, knowledge, speaks_of, is_turning, lane_of}
 use Rattle.phase_shared.specs.Goods.{Allows, IsGood}

@@ -3,13 +3,13 @@ use Rattle.std.proofs.Common.{◌≡◌, ℕ, ◌+◌, ◌≤◌, true, false, c
 use Rattle.std.proofs.lemmas.Option.{same_Some}
 use Rattle.phase_shared.proofs.Small.{longer_some}
 use Rattle.phase_shared.specs.Phasers.{Limits, is_in, Entry, History, start_of, done_of, IsLegal, HasCounted, events_of}
-use Rattle.phase_core.specs.phase_history.declared.event.Event.TheVariants.{Made, Registered, RegisteredNow, Signalled, Waited, Dropped}
-use Rattle.phase_core.specs.phase_history.Histories.{phases_signalled}
-use Rattle.phase_core.proofs.phase_history_lemmas.LawProofs.{counted_of}
-use Rattle.phase_core.proofs.phase_history_lemmas.Steps.{steps, sound_of}
-use Rattle.phase_core.proofs.phase_history_lemmas.Streams.{legal_rest}
-use Rattle.phase_core.proofs.phase_history_lemmas.Used.{start_of-longer}
-use Rattle.phase_core.proofs.phase_history_lemmas.OthersEvents.{skips}
+use Rattle.phase_history.specs.declared.event.Event.TheVariants.{Made, Registered, RegisteredNow, Signalled, Waited, Dropped}
+use Rattle.phase_history.specs.Histories.{phases_signalled}
+use Rattle.phase_history.proofs.LawProofs.{counted_of}
+use Rattle.phase_history.proofs.Steps.{steps, sound_of}
+use Rattle.phase_history.proofs.Streams.{legal_rest}
+use Rattle.phase_history.proofs.Used.{start_of-longer}
+use Rattle.phase_history.proofs.OthersEvents.{skips}
 use Rattle.phase_shared.specs.Asks.{Ask, IsAtPhases, Stage, Batch}
 
 more_signals : (task : ℕ) (later h : History) → phases_signalled h task ≤ phases_signalled (later ++ h) task

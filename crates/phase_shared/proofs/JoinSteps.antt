@@ -1,11 +1,11 @@
 -- A registration of a waiter that joins now, under the turn.
 use Rattle.std.proofs.Common.{◌≡◌, ℕ, ◌∷◌, Some, None, refl, ap, ◌∙◌}
 use Rattle.phase_shared.specs.Phasers.{Limits, entry_of, Entry, History, members_of, entry_at, signal_phase, done_of, IsLegal, IsUsed, register_now_refusal, Operation, CoreState, StandsFor}
-use Rattle.phase_core.specs.phase_base.declared.mode.Mode.TheVariants.{Wait}
-use Rattle.phase_core.specs.phase_history.declared.event.Event.TheVariants.{RegisteredNow}
-use Rattle.phase_core.proofs.phase_history_lemmas.MemberLemmas.{entry_of-push_new, entry_of-push_old}
-use Rattle.phase_core.proofs.phase_history_lemmas.Steps.{sound_of, member_entry_is}
-use Rattle.phase_core.proofs.phase_history_lemmas.Received.{fresh}
+use Rattle.phase_base.specs.declared.mode.Mode.TheVariants.{Wait}
+use Rattle.phase_history.specs.declared.event.Event.TheVariants.{RegisteredNow}
+use Rattle.phase_history.proofs.MemberLemmas.{entry_of-push_new, entry_of-push_old}
+use Rattle.phase_history.proofs.Steps.{sound_of, member_entry_is}
+use Rattle.phase_history.proofs.Received.{fresh}
 use Rattle.phase_shared.specs.declared.rule.Terms.{Terms}
 use Rattle.phase_shared.specs.Rule.{Allows, IsGoodAt, StandsWithin}
 use Rattle.phase_shared.proofs.Small.{eqb_refl}

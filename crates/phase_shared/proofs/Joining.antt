@@ -9,9 +9,9 @@ use Rattle.turn_lock.proofs.Keeping.{not_both}
 use lib.ListN.{get_elem?}
 use Rattle.atomic_table.proofs.Lists.{at_set, at_longer, set_else}
 use Rattle.phase_shared.specs.Phasers.{Limits, is_distinct, is_in, Outcome, History, IsLegal, IsUsed, OnlyUsed}
-use Rattle.phase_core.specs.phase_history.declared.event.Event.TheVariants.{Made}
-use Rattle.phase_core.proofs.phase_history_lemmas.OthersEvents.{OthersCame-refl, OthersCame-fewer}
-use Rattle.phase_core.proofs.phase_history_lemmas.Used.{OnlyUsed-others}
+use Rattle.phase_history.specs.declared.event.Event.TheVariants.{Made}
+use Rattle.phase_history.proofs.OthersEvents.{OthersCame-refl, OthersCame-fewer}
+use Rattle.phase_history.proofs.Used.{OnlyUsed-others}
 use Rattle.phase_shared.specs.declared.seats.view.Knowledge.{Knowledge}
 use Rattle.phase_shared.specs.Views.{knowledge, speaks_of, is_turning}
 use Rattle.phase_shared.specs.Goods.{Allows}

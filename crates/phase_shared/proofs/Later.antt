@@ -3,7 +3,7 @@ use Rattle.std.proofs.Common.{◌≡◌, ℕ, ℤ, Bool, false, List, [], ◌∷
 use Rattle.std.specs.Prelude.{Ok, Err, Result}
 use Rattle.std.specs.Result.{result_ok}
 use Rattle.phase_shared.specs.Phasers.{Limits, Entry, Operation, Parcel, StandsForSends, Outcome, Single, Got, SignalRefusal, WaitRefusal, History, OthersCame}
-use Rattle.phase_core.proofs.phase_history_lemmas.OthersEvents.{OthersCame-refl, OthersCame-trans}
+use Rattle.phase_history.proofs.OthersEvents.{OthersCame-refl, OthersCame-trans}
 use Rattle.phase_shared.specs.declared.rule.Terms.{Terms}
 use Rattle.phase_shared.specs.Rule.{Allows}
 use Rattle.phase_shared.specs.Calls.{Signals, Waits, MayWait, SignalsAndMayWait, IsTry, IsCall, Tries, MaySignal}

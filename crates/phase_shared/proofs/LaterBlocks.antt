@@ -2,7 +2,7 @@
 use Rattle.std.proofs.Common.{◌≡◌, ℕ, ℤ, List, [], ◌∷◌, Option, subst, sym}
 use Rattle.std.specs.Prelude.{Result}
 use Rattle.phase_shared.specs.Phasers.{Limits, Operation, Parcel, Outcome, Single, GotBlock, SignalRefusal, WaitRefusal, History, OthersCame}
-use Rattle.phase_core.proofs.phase_history_lemmas.OthersEvents.{OthersCame-trans}
+use Rattle.phase_history.proofs.OthersEvents.{OthersCame-trans}
 use Rattle.phase_shared.specs.declared.rule.Terms.{Terms}
 use Rattle.phase_shared.specs.Rule.{Allows}
 use Rattle.phase_shared.specs.Regs.{RegState}

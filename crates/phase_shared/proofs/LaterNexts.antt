@@ -3,8 +3,8 @@ use Rattle.std.proofs.Common.{◌≡◌, ℕ, Bool, true, false, [], ◌∷◌, 
 use Rattle.std.specs.Prelude.{Ok, Err, Result}
 use Rattle.std.specs.Result.{result_ok}
 use Rattle.phase_shared.specs.Phasers.{mode_signals, mode_waits, Entry, Operation, Single, Got, SignalRefusal, History, OthersCame}
-use Rattle.phase_core.specs.phase_history.declared.refusal.SignalRefusal.TheVariants.{NoTask}
-use Rattle.phase_core.proofs.phase_history_lemmas.OthersEvents.{OthersCame-trans}
+use Rattle.phase_history.specs.declared.refusal.SignalRefusal.TheVariants.{NoTask}
+use Rattle.phase_history.proofs.OthersEvents.{OthersCame-trans}
 use Rattle.phase_shared.specs.declared.next.Next.{Next}
 use Rattle.phase_shared.specs.declared.rule.Terms.{Terms}
 use Rattle.phase_shared.specs.Calls.{IsCall, Signals, Waits}

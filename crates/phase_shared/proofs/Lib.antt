@@ -41,8 +41,6 @@ pub mod RegisterSteps
 pub mod Meeting
 pub mod BlockSteps
 pub mod JoinSteps
-pub use Rattle.phase_core.proofs.phase_history_lemmas as phase_history_lemmas
-pub use Rattle.turn_lock.proofs as turn_lock_lemmas
 pub mod ServingReads
 pub mod ServingSteps
 pub mod ServingTurns

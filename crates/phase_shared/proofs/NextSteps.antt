@@ -3,18 +3,18 @@ use Rattle.std.proofs.Common.{◌≡◌, ◌≢◌, ℕ, ◌+◌, ◌≤◌, ℤ
 use Rattle.std.proofs.lemmas.Bool.{ne_eqb}
 use Rattle.std.proofs.lemmas.Bool.Decides.{nat_tests}
 use Rattle.phase_shared.specs.Phasers.{Limits, mode_signals, mode_waits, Mode, Entry, Outcome, Got, entry_of, signalled, signal_phases, Single, WaitRefusal, History, members_of, positions_of, IsLegal, refusal_at, wait_rows, wait_refusal, OthersCame}
-use Rattle.phase_core.specs.phase_base.declared.mode.Mode.TheVariants.{Sig, Wait, SigWait, Single as Singles}
+use Rattle.phase_base.specs.declared.mode.Mode.TheVariants.{Sig, Wait, SigWait, Single as Singles}
 use Rattle.std.specs.Prelude.{is_some, Ok}
 use Rattle.std.proofs.lemmas.Option.{same_Some}
-use Rattle.phase_core.specs.phase_base.Members.{least as least_of}
-use Rattle.phase_core.specs.phase_history.declared.event.Event.TheVariants.{Signalled}
-use Rattle.phase_core.specs.phase_history.declared.refusal.WaitRefusal.TheVariants as wait
-use Rattle.phase_core.specs.phase_history.Histories.{done_at}
-use Rattle.phase_core.specs.phase_history.Refusals.{is_bad_block}
-use Rattle.phase_core.specs.phase_base.Lists.{first_row}
-use Rattle.phase_core.proofs.phase_history_lemmas.LawProofs.{turns_law}
-use Rattle.phase_core.proofs.phase_history_lemmas.MemberLemmas.{entry_of-changed_same}
-use Rattle.phase_core.proofs.phase_history_lemmas.Standstill.{limits_of}
+use Rattle.phase_base.specs.Members.{least as least_of}
+use Rattle.phase_history.specs.declared.event.Event.TheVariants.{Signalled}
+use Rattle.phase_history.specs.declared.refusal.WaitRefusal.TheVariants as wait
+use Rattle.phase_history.specs.Histories.{done_at}
+use Rattle.phase_history.specs.Refusals.{is_bad_block}
+use Rattle.phase_base.specs.Lists.{first_row}
+use Rattle.phase_history.proofs.LawProofs.{turns_law}
+use Rattle.phase_history.proofs.MemberLemmas.{entry_of-changed_same}
+use Rattle.phase_history.proofs.Standstill.{limits_of}
 use Rattle.phase_shared.specs.Calls.{Waits}
 use Rattle.phase_shared.specs.Nexts.{MadeWhere, MayWait}
 use Rattle.phase_shared.proofs.Giving.{member_after}

@@ -2,7 +2,7 @@
 use Rattle.std.proofs.Common.{◌≡◌, ℕ, ℤ, List, [], ◌∷◌, Option, refl, sym, ap, subst, ◌∙◌}
 use Rattle.std.specs.Prelude.{Result, length}
 use Rattle.phase_shared.specs.Phasers.{Limits, Operation, AccumulateLaws, Parcel, StandsForSends, Single, SignalRefusal, History, OthersCame, after_signal}
-use Rattle.phase_core.proofs.phase_accum_lemmas.Parts.{one_send-same}
+use Rattle.phase_accum.proofs.Parts.{one_send-same}
 use Rattle.phase_shared.specs.declared.tried.Tried.{Tried}
 use Rattle.phase_shared.specs.declared.rule.Terms.{Terms}
 use Rattle.phase_shared.specs.Rule.{Allows}

@@ -4,16 +4,16 @@ use Rattle.std.specs.Prelude.{Result, ◌||◌, unwrap_or}
 use Rattle.std.proofs.lemmas.Bool.{eq-eqb}
 use Rattle.std.proofs.lemmas.Option.{same_Some}
 use Rattle.phase_shared.specs.Phasers.{Limits, entry_of, mode_signals, mode_waits, Entry, Mode, Outcome, Single, Operation, Parcel, Got, RegisterRefusal, SignalRefusal, WaitRefusal, History, HasNoSignaller, members_of, founder, signal_phase, wait_phase, done_of, start_of, entry_at, received_by, IsLegal, OthersCame, is_in, HasNoEvents, sent_by}
-use Rattle.phase_core.specs.phase_accum.declared.outcome.Outcome.TheVariants.{Empty}
-use Rattle.phase_core.specs.phase_history.declared.event.Event.TheVariants.{Registered}
-use Rattle.phase_core.specs.phase_history.declared.got.Got.TheVariants.{Value, Ended}
-use Rattle.phase_core.specs.phase_history.declared.refusal.RegisterRefusal.TheVariants as register
-use Rattle.phase_core.specs.phase_history.Histories.{has_dropped}
-use Rattle.phase_core.proofs.phase_history_lemmas.LawProofs.{above_law, answers_law}
-use Rattle.phase_core.proofs.phase_history_lemmas.Answered.{ended_tells}
-use Rattle.phase_core.proofs.phase_history_lemmas.OthersEvents.{received_by-others, sent_by-others}
-use Rattle.phase_core.proofs.phase_history_lemmas.Gathered.{no_lists}
-use Rattle.phase_core.proofs.phase_history_lemmas.Sendings.{length-sent_by}
+use Rattle.phase_accum.specs.declared.outcome.Outcome.TheVariants.{Empty}
+use Rattle.phase_history.specs.declared.event.Event.TheVariants.{Registered}
+use Rattle.phase_history.specs.declared.got.Got.TheVariants.{Value, Ended}
+use Rattle.phase_history.specs.declared.refusal.RegisterRefusal.TheVariants as register
+use Rattle.phase_history.specs.Histories.{has_dropped}
+use Rattle.phase_history.proofs.LawProofs.{above_law, answers_law}
+use Rattle.phase_history.proofs.Answered.{ended_tells}
+use Rattle.phase_history.proofs.OthersEvents.{received_by-others, sent_by-others}
+use Rattle.phase_history.proofs.Gathered.{no_lists}
+use Rattle.phase_history.proofs.Sendings.{length-sent_by}
 use Rattle.phase_shared.specs.declared.next.Next.{Next}
 use Rattle.phase_shared.specs.Calls.{Signals, Waits, HasRegistered, RefusesRegister, Leaves}
 use Rattle.phase_shared.specs.Nexts.{MadeWhere, GoesNext, RefusesNext}

@@ -5,12 +5,12 @@ use Rattle.std.proofs.lemmas.Bool.Decides.{nat_tests}
 use Rattle.std.proofs.lemmas.Bool.{eqb-true, ne_eqb}
 use Rattle.turn_lock.specs.WordSteps.{GivesOf, ForksOf}
 use Rattle.phase_shared.specs.Phasers.{Limits, Mode, Entry, Operation, Event, RegisterRefusal, History, start_of, greatest_used, members_of, entry_at, signal_phase, wait_phase, entry_of, register_refusal, IsLegal, CoreState, StandsFor, IsUsed, is_by, OthersCame, is_in, Outcome}
-use Rattle.phase_core.specs.phase_history.declared.event.Event.TheVariants.{Registered}
-use Rattle.phase_core.specs.phase_history.declared.refusal.RegisterRefusal.TheVariants as register
-use Rattle.phase_core.proofs.phase_history_lemmas.MemberLemmas.{entry_of-push_new, entry_of-push_old}
-use Rattle.phase_core.proofs.phase_history_lemmas.Steps.{sound_of, member_entry_is}
-use Rattle.phase_core.proofs.phase_history_lemmas.Refused.{registers_from}
-use Rattle.phase_core.proofs.phase_history_lemmas.Answered.{register_refusal-never}
+use Rattle.phase_history.specs.declared.event.Event.TheVariants.{Registered}
+use Rattle.phase_history.specs.declared.refusal.RegisterRefusal.TheVariants as register
+use Rattle.phase_history.proofs.MemberLemmas.{entry_of-push_new, entry_of-push_old}
+use Rattle.phase_history.proofs.Steps.{sound_of, member_entry_is}
+use Rattle.phase_history.proofs.Refused.{registers_from}
+use Rattle.phase_history.proofs.Answered.{register_refusal-never}
 use Rattle.phase_shared.specs.declared.seats.view.View.{View}
 use Rattle.phase_shared.specs.declared.rule.Terms.{Terms}
 use Rattle.phase_shared.specs.declared.seats.view.Ask.{Ask}
@@ -25,8 +25,8 @@ use Rattle.turn_lock.specs.declared.seat.Seat.{Seat}
 use Rattle.turn_lock.specs.Seats.{seat_view}
 use Rattle.phase_shared.specs.declared.tried.Tried.{Tried}
 use Rattle.phase_shared.specs.declared.tried.Tried.TheVariants.{Refused}
-use Rattle.phase_core.proofs.phase_history_lemmas.Used.{IsUsed-longer}
-use Rattle.phase_core.proofs.phase_history_lemmas.Received.{start_of-above, fresh}
+use Rattle.phase_history.proofs.Used.{IsUsed-longer}
+use Rattle.phase_history.proofs.Received.{start_of-above, fresh}
 use Rattle.phase_shared.proofs.Small.{or_false, is_in_self, eqb_refl}
 use Rattle.phase_shared.proofs.GivingAsks as asks
 use Rattle.phase_shared.proofs.Joining.{forks}

@@ -4,9 +4,9 @@ use Rattle.std.proofs.lemmas.Bool.{eqb-true, eq-eqb, ne_eqb}
 use Rattle.std.proofs.lemmas.Option.{same_Some}
 use Rattle.turn_lock.proofs.Keeping.{not_both}
 use Rattle.phase_shared.specs.Phasers.{Limits, is_in, mode_signals, mode_waits, entry_of, signalled, Entry, Operation, Event, History, members_of, done_of, IsLegal, is_by, OthersCame, CoreState, StandsFor}
-use Rattle.phase_core.specs.phase_history.declared.event.Event.TheVariants.{Signalled, Waited}
-use Rattle.phase_core.proofs.phase_history_lemmas.MemberLemmas.{entry_of-changed_other}
-use Rattle.phase_core.proofs.phase_history_lemmas.Used.{entry_of-others, IsLegal-beginning}
+use Rattle.phase_history.specs.declared.event.Event.TheVariants.{Signalled, Waited}
+use Rattle.phase_history.proofs.MemberLemmas.{entry_of-changed_other}
+use Rattle.phase_history.proofs.Used.{entry_of-others, IsLegal-beginning}
 use Rattle.phase_shared.specs.declared.seats.view.View.{View}
 use Rattle.phase_shared.specs.Asks.{Ask, IsAtPhases, IsMade, Stage, IsOneOf}
 use Rattle.phase_shared.specs.Goods.{Allows}

@@ -3,13 +3,13 @@
 use Rattle.std.proofs.Common.{◌≡◌, ◌≢◌, ℕ, ◌+◌, ◌<◌, ◌≤◌, Bool, true, false, cond, eqb, ltb, leb, [], ◌∷◌, ◌++◌, ◌⊎◌, None, refl, sym, ap, subst, ◌∙◌, inl, inr, arith}
 use Rattle.std.proofs.lemmas.Bool.{ne_eqb, ltb-true, ltb-false, lt-ltb, le-ltb, leb-true}
 use Rattle.phase_shared.specs.Phasers.{Limits, mode_signals, waited, Operation, Outcome, Event, History, members_of, done_of, wait_phase, least, signal_phases, positions_of, value_of_phase, refusal_at, wait_rows, wait_refusal, wait_reply, refused_or, got_at, Got, WaitRefusal, IsLegal, is_by, CoreState, StandsFor}
-use Rattle.phase_core.specs.phase_history.declared.event.Event.TheVariants.{Waited}
+use Rattle.phase_history.specs.declared.event.Event.TheVariants.{Waited}
 use Rattle.std.specs.Prelude.{Ok, Result, is_some, not, ◌&&◌}
-use Rattle.phase_core.specs.phase_history.declared.got.Got.TheVariants as got
-use Rattle.phase_core.specs.phase_history.declared.refusal.WaitRefusal.TheVariants as wait
-use Rattle.phase_core.proofs.phase_history_lemmas.Refused.{first_row_none}
-use Rattle.phase_core.proofs.phase_history_lemmas.MemberLemmas.{entry_of-changed_other}
-use Rattle.phase_core.proofs.phase_history_lemmas.Standstill.{limits_of}
+use Rattle.phase_history.specs.declared.got.Got.TheVariants as got
+use Rattle.phase_history.specs.declared.refusal.WaitRefusal.TheVariants as wait
+use Rattle.phase_history.proofs.Refused.{first_row_none}
+use Rattle.phase_history.proofs.MemberLemmas.{entry_of-changed_other}
+use Rattle.phase_history.proofs.Standstill.{limits_of}
 use Rattle.phase_shared.specs.declared.seats.request.Request.{Request}
 use Rattle.phase_shared.specs.declared.seats.view.View.{View}
 use Rattle.phase_shared.specs.Asks.{Ask, IsAtPhases, IsOneOf}

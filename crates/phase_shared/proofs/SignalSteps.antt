@@ -2,9 +2,9 @@
 use Rattle.std.proofs.Common.{◌≡◌, ℕ, ℤ, true, List, [], ◌∷◌, Option, Some, ◌∙◌}
 use Rattle.std.specs.Prelude.{Result, is_some}
 use Rattle.phase_shared.specs.Phasers.{Single, entry_of, signalled, History, members_of, Entry, WaitRefusal, after_wait, Got}
-use Rattle.phase_core.specs.phase_history.declared.event.Event.TheVariants.{Signalled}
+use Rattle.phase_history.specs.declared.event.Event.TheVariants.{Signalled}
 use Rattle.std.specs.Result.{result_ok}
-use Rattle.phase_core.proofs.phase_history_lemmas.MemberLemmas.{is_some-entry_of-changed, entry_of-changed_same}
+use Rattle.phase_history.proofs.MemberLemmas.{is_some-entry_of-changed, entry_of-changed_same}
 use Rattle.phase_shared.specs.Entries.{entry_after_wait}
 use Rattle.phase_shared.proofs.WaitSteps.{member_waits}
 

@@ -2,12 +2,12 @@
 use Rattle.std.proofs.Common.{◌≡◌, ℕ, ℤ, ◌+◌, ◌<◌, ◌≤◌, true, false, cond, eqb, List, [], ◌∷◌, ◌++◌, None, Some, refl, sym, ap, subst, ◌∙◌, inl, inr, arith}
 use Rattle.std.proofs.lemmas.Bool.{eqb-true}
 use Rattle.phase_shared.specs.Phasers.{Limits, is_in, mode_signals, Entry, entry_of, signalled, waited, Event, History, positions_of, members_of, signal_phase, wait_phase, done_of, IsLegal, IsAccepted, is_by, OthersCame}
-use Rattle.phase_core.specs.phase_history.declared.event.Event.TheVariants.{Signalled, Waited}
-use Rattle.phase_core.proofs.phase_history_lemmas.MemberLemmas.{Each-entry, entry_of-changed_same}
-use Rattle.phase_core.proofs.phase_history_lemmas.Steps.{done_low, member_entry_is, steps, sound_of}
-use Rattle.phase_core.proofs.phase_history_lemmas.Streams.{legal_rest}
-use Rattle.phase_core.proofs.phase_history_lemmas.Used.{entry_of-others}
-use Rattle.phase_core.proofs.phase_history_lemmas.OthersEvents.{OthersCame-refl, OthersCame-event, OthersCame-trans}
+use Rattle.phase_history.specs.declared.event.Event.TheVariants.{Signalled, Waited}
+use Rattle.phase_history.proofs.MemberLemmas.{Each-entry, entry_of-changed_same}
+use Rattle.phase_history.proofs.Steps.{done_low, member_entry_is, steps, sound_of}
+use Rattle.phase_history.proofs.Streams.{legal_rest}
+use Rattle.phase_history.proofs.Used.{entry_of-others}
+use Rattle.phase_history.proofs.OthersEvents.{OthersCame-refl, OthersCame-event, OthersCame-trans}
 use Rattle.phase_shared.proofs.Small.{one_of, longer_some, apart_phases}
 use Rattle.phase_shared.specs.Asks.{Ask, IsAtPhases, IsMade, IsAnsweredAsk, Stage, SignalsFor, WaitsFor, Batch}
 

@@ -4,12 +4,12 @@ use Rattle.std.specs.Prelude.{◌||◌}
 use Rattle.std.proofs.lemmas.Bool.{eq-eqb, eqb-true, false_from_ne_true}
 use Rattle.turn_lock.proofs.Keeping.{not_both}
 use Rattle.phase_shared.specs.Phasers.{Limits, is_in, Outcome, Event, History, done_of, value_of_phase, IsLegal, is_by, events_of, OthersCame}
-use Rattle.phase_core.specs.phase_accum.declared.outcome.Outcome.TheVariants.{Empty}
-use Rattle.phase_core.specs.phase_history.declared.event.Event.TheVariants.{Waited}
-use Rattle.phase_core.proofs.phase_history_lemmas.Steps.{steps, sound_of}
-use Rattle.phase_core.proofs.phase_history_lemmas.Streams.{legal_rest}
-use Rattle.phase_core.proofs.phase_history_lemmas.Used.{entry_of-others}
-use Rattle.phase_core.proofs.phase_history_lemmas.OthersEvents.{OthersCame-trans}
+use Rattle.phase_accum.specs.declared.outcome.Outcome.TheVariants.{Empty}
+use Rattle.phase_history.specs.declared.event.Event.TheVariants.{Waited}
+use Rattle.phase_history.proofs.Steps.{steps, sound_of}
+use Rattle.phase_history.proofs.Streams.{legal_rest}
+use Rattle.phase_history.proofs.Used.{entry_of-others}
+use Rattle.phase_history.proofs.OthersEvents.{OthersCame-trans}
 use Rattle.phase_shared.specs.Asks.{Ask, IsAtPhases, IsUnmade, IsMade, IsAnsweredAsk, Stage, Batch, IsOneOf, asks_for}
 use Rattle.phase_shared.proofs.Small.{one_of, apart_phases, longer_some}
 use Rattle.phase_shared.proofs.Stages.{at_entry, wait_is}

@@ -3,10 +3,10 @@ use Rattle.std.proofs.Common.{◌≡◌, ℕ, ◌+◌, ◌*◌, ◌<◌, ◌≤�
 use Rattle.std.specs.Prelude.{◌/◌, ◌%◌}
 use Rattle.turn_lock.specs.WordSteps.{GivesOf}
 use Rattle.phase_shared.specs.Phasers.{Limits, Operation, Outcome, SignalRefusal, History, done_of, value_of_phase, IsLegal, signal_refusal, OthersCame, CoreState}
-use Rattle.phase_core.specs.phase_history.declared.event.Event.TheVariants.{Signalled, Waited}
+use Rattle.phase_history.specs.declared.event.Event.TheVariants.{Signalled, Waited}
 use Rattle.phase_core.specs.Cores as core
-use Rattle.phase_core.proofs.phase_history_lemmas.OthersEvents.{OthersCame-refl}
-use Rattle.phase_core.proofs.phase_history_lemmas.Used.{IsLegal-beginning}
+use Rattle.phase_history.proofs.OthersEvents.{OthersCame-refl}
+use Rattle.phase_history.proofs.Used.{IsLegal-beginning}
 use Rattle.phase_shared.specs.declared.seats.view.Knowledge.{Knowledge}
 use Rattle.phase_shared.specs.Asks.{Ask, IsAtPhases, IsAnsweredAsk, IsOneOf}
 use Rattle.phase_shared.specs.Desks.{View, Resting, Asking, IsPast}

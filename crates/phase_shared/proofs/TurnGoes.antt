@@ -3,9 +3,9 @@ use Rattle.std.proofs.Common.{◌≡◌, ℕ, ◌+◌, ◌<◌, ◌≤◌, true,
 use Rattle.std.specs.Prelude.{is_some}
 use Rattle.std.proofs.lemmas.Option.{same_Some}
 use Rattle.phase_shared.specs.Phasers.{Limits, mode_waits, entry_of, signalled, waited, Entry, Operation, History, members_of, done_of, IsAlive, IsLegal, CoreState, StandsFor}
-use Rattle.phase_core.specs.phase_history.declared.event.Event.TheVariants.{Signalled, Waited}
-use Rattle.phase_core.proofs.phase_history_lemmas.MemberLemmas.{entry_of-changed_same}
-use Rattle.phase_core.proofs.phase_history_lemmas.Used.{IsLegal-beginning}
+use Rattle.phase_history.specs.declared.event.Event.TheVariants.{Signalled, Waited}
+use Rattle.phase_history.proofs.MemberLemmas.{entry_of-changed_same}
+use Rattle.phase_history.proofs.Used.{IsLegal-beginning}
 use Rattle.phase_shared.specs.Asks.{Ask, IsAtPhases, IsUnmade, IsMade, IsAnsweredAsk, Stage}
 use Rattle.phase_shared.specs.Desks.{View, MayMakeAsk}
 use Rattle.phase_shared.specs.Goods.{Allows}

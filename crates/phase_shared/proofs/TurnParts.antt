@@ -3,8 +3,8 @@ use Rattle.std.proofs.Common.{◌≡◌, ℕ, ◌+◌, ◌≤◌, Bool, true, fa
 use Rattle.std.specs.Prelude.{Err}
 use Rattle.std.proofs.lemmas.Option.{same_Some}
 use Rattle.phase_shared.specs.Phasers.{is_in, mode_waits, signalled, Entry, Limits, Operation, History, members_of, done_of, signal_phase, signal_refusal, signal_reply, SignalRefusal, IsLegal, CoreState, StandsFor}
-use Rattle.phase_core.specs.phase_history.declared.event.Event.TheVariants.{Signalled}
-use Rattle.phase_core.proofs.phase_history_lemmas.MemberLemmas.{entry_of-changed_same, entry_of-changed_other}
+use Rattle.phase_history.specs.declared.event.Event.TheVariants.{Signalled}
+use Rattle.phase_history.proofs.MemberLemmas.{entry_of-changed_same, entry_of-changed_other}
 use Rattle.phase_shared.specs.Asks.{Ask, IsAtPhases, IsMade, IsOneOf}
 use Rattle.phase_shared.specs.Desks.{View}
 use Rattle.phase_shared.specs.Goods.{Allows, IsGood}

@@ -3,13 +3,13 @@ use Rattle.std.proofs.Common.{◌≡◌, ℕ, ℤ, Bool, true, false, List, [], 
 use Rattle.std.specs.Prelude.{Ok, Err, Result, is_some, IsErr}
 use Rattle.std.specs.Result.{result_ok}
 use Rattle.phase_shared.specs.Phasers.{Operation, Got, WaitRefusal, entry_of, waited, History, members_of, wait_reply, after_wait, CoreState, StandsFor, Entry, Limits, Outcome}
-use Rattle.phase_core.specs.phase_history.declared.event.Event.TheVariants.{Waited}
-use Rattle.phase_core.specs.phase_history.declared.got.Got.TheVariants as got
-use Rattle.phase_core.proofs.phase_history_lemmas.MemberLemmas.{is_some-entry_of-changed, entry_of-changed_same}
+use Rattle.phase_history.specs.declared.event.Event.TheVariants.{Waited}
+use Rattle.phase_history.specs.declared.got.Got.TheVariants as got
+use Rattle.phase_history.proofs.MemberLemmas.{is_some-entry_of-changed, entry_of-changed_same}
 use Rattle.phase_shared.specs.Entries.{entry_after_wait}
 use Rattle.phase_shared.specs.Rule.{Allows, Keeps}
 use Rattle.phase_shared.specs.Calls.{MayWait}
-use Rattle.phase_core.proofs.phase_history_lemmas.OthersEvents.{OthersCame-refl}
+use Rattle.phase_history.proofs.OthersEvents.{OthersCame-refl}
 use Rattle.phase_shared.proofs.Giving.{OwnCame, own_event}
 
 -- what a wait adds is its task's own

@@ -1,13 +1,13 @@
 -- No task has waited for a phase that is not complete.
 use Rattle.std.proofs.Common.{◌≡◌, ℕ, ◌+◌, ◌≤◌, not, eqb, [], ◌∷◌, Some, length, sym, ap, subst, arith}
 use Rattle.phase_shared.specs.Phasers.{Limits, Entry, entry_of, signalled, waited, Event, History, members_of, wait_phase, done_of, IsAccepted, IsLegal}
-use Rattle.phase_core.specs.phase_base.declared.member.Member.{Member}
-use Rattle.phase_core.specs.phase_history.declared.event.Event.TheVariants.{Made, Registered, RegisteredNow, Signalled, Waited, Dropped}
-use Rattle.phase_core.specs.phase_history.Histories.{member_entry}
-use Rattle.phase_core.proofs.phase_history_lemmas.Each.{Each, Each-from, Each-push, Each-filter}
-use Rattle.phase_core.proofs.phase_history_lemmas.MemberLemmas.{Each-entry, Each-changed}
-use Rattle.phase_core.proofs.phase_history_lemmas.Refused.{passes_from, registers_from, waits_from}
-use Rattle.phase_core.proofs.phase_history_lemmas.Steps.{steps, sound_of, member_entry_is}
+use Rattle.phase_base.specs.declared.member.Member.{Member}
+use Rattle.phase_history.specs.declared.event.Event.TheVariants.{Made, Registered, RegisteredNow, Signalled, Waited, Dropped}
+use Rattle.phase_history.specs.Histories.{member_entry}
+use Rattle.phase_history.proofs.Each.{Each, Each-from, Each-push, Each-filter}
+use Rattle.phase_history.proofs.MemberLemmas.{Each-entry, Each-changed}
+use Rattle.phase_history.proofs.Refused.{passes_from, registers_from, waits_from}
+use Rattle.phase_history.proofs.Steps.{steps, sound_of, member_entry_is}
 
 abbrev Within : ℕ → Member → Type 0
 Within n m = m.entry.wait_phase ≤ n

@@ -3,7 +3,7 @@ use Rattle.std.specs.Prelude.{◌≡◌, ℕ, ◌+◌, true, Option, Some, None,
 use Rattle.turn_lock.specs.declared.seat.Seat.{Seat}
 use Rattle.turn_lock.specs.Seats.{seat_place, seat_view}
 use Rattle.phase_shared.specs.Phasers.{Entry, Got, Operation, Parcel, SignalRefusal, entry_of, members_of, mode_signals, mode_waits}
-use Rattle.phase_core.specs.phase_history.declared.refusal.SignalRefusal.TheVariants.{NoTask}
+use Rattle.phase_history.specs.declared.refusal.SignalRefusal.TheVariants.{NoTask}
 use Rattle.phase_shared.specs.Calls.{IsCall, HeldAfter, SignalsAndMayWait}
 use Rattle.phase_shared.specs.Entries.{entry_after_both, entry_after_next}
 use Rattle.phase_shared.specs.Nexts.{GoesOrRefuses}

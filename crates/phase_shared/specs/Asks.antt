@@ -1,7 +1,7 @@
 -- What a registration leaves with whoever has the turn: a signal of its phase, and then a wait.
 use Rattle.std.specs.Prelude.{◌≡◌, ℕ, ◌+◌, ◌<◌, List, [], ◌∷◌, ◌++◌, ◌⊎◌, None, Some, Bool, true, false, ◌==◌, ◌||◌}
 use Rattle.phase_shared.specs.Phasers.{Limits, is_in, mode_signals, Entry, entry_of, Event, History, members_of, signal_phase, wait_phase, done_of, signal_refusal, wait_refusal, is_by, OthersCame}
-use Rattle.phase_core.specs.phase_history.declared.event.Event.TheVariants.{Signalled, Waited}
+use Rattle.phase_history.specs.declared.event.Event.TheVariants.{Signalled, Waited}
 pub use Rattle.phase_shared.specs.declared.seats.view.Ask.{Ask}
 
 -- the task is registered as one that signals, at these phases

@@ -2,7 +2,7 @@
 -- history that its task has seen goes on.
 use Rattle.std.specs.Prelude.{◌≡◌, ℕ, ◌+◌, ℤ, List, [], ◌∷◌, Option, Some, None, Result, length, Ok, Err}
 use Rattle.phase_shared.specs.Phasers.{Limits, Entry, Operation, Parcel, Outcome, Single, GotBlock, SignalRefusal, WaitRefusal, History, stream_of, signal_reply, after_signal, wait_block_reply, after_wait_block, OthersCame, StandForLists, one_each}
-use Rattle.phase_core.specs.phase_history.declared.got.GotBlock.TheVariants.{Values, Ended}
+use Rattle.phase_history.specs.declared.got.GotBlock.TheVariants.{Values, Ended}
 use Rattle.phase_core.specs.Blocks.{written}
 use Rattle.phase_shared.specs.declared.rule.Terms.{Terms}
 use Rattle.phase_shared.specs.Rule.{Allows, IsGoodAt}

@@ -4,8 +4,8 @@
 -- own event, where it makes one.
 use Rattle.std.specs.Prelude.{◌≡◌, ℕ, ℤ, Bool, true, false, List, [], ◌∷◌, Option, Result, Ok, Err, IsErr, None, Some, min, ◌+◌, ◌-◌, ◌^◌, ◌≢◌}
 use Rattle.phase_shared.specs.Phasers.{Limits, Mode, Operation, Parcel, StandsForSends, Outcome, Single, Got, RegisterRefusal, SignalRefusal, WaitRefusal, History, greatest_used, entry_at, register_refusal, signal_reply, after_signal, wait_reply, after_wait, OthersCame, OnlyUsed, Entry}
-use Rattle.phase_core.specs.phase_history.declared.event.Event.TheVariants.{Registered, Dropped}
-use Rattle.phase_core.specs.phase_history.declared.refusal.RegisterRefusal.TheVariants as register
+use Rattle.phase_history.specs.declared.event.Event.TheVariants.{Registered, Dropped}
+use Rattle.phase_history.specs.declared.refusal.RegisterRefusal.TheVariants as register
 use Rattle.phase_shared.specs.declared.seats.view.View.{View}
 use Rattle.phase_shared.specs.declared.rule.Terms.{Terms}
 use Rattle.phase_shared.specs.Views.{resting}

@@ -1,6 +1,6 @@
 -- Calls that wait no longer once the phaser is closed.
 use Rattle.std.specs.Prelude.{◌≡◌, ℕ, ℤ, List, Bool, true, false, Option, Some, None, Result, Ok, Err}
-use Rattle.phase_core.specs.phase_history.declared.refusal.WaitRefusal.TheVariants.{NotYet}
+use Rattle.phase_history.specs.declared.refusal.WaitRefusal.TheVariants.{NotYet}
 use Rattle.phase_shared.specs.Phasers.{Limits, Operation, Outcome, Single, Got, SignalRefusal, History, mode_signals, mode_waits}
 use Rattle.phase_shared.specs.Regs.{RegState}
 use Rattle.phase_shared.specs.Calls.{Signals, Waits}

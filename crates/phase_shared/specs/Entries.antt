@@ -1,7 +1,7 @@
 -- Where a task and its registration stand after a call, by what was answered. The mode stays.
 use Rattle.std.specs.Prelude.{ℕ, ◌+◌, Option, Some, None}
 use Rattle.phase_shared.specs.Phasers.{Entry, Got}
-use Rattle.phase_core.specs.phase_history.declared.got.Got.TheVariants.{Value, Ended}
+use Rattle.phase_history.specs.declared.got.Got.TheVariants.{Value, Ended}
 use Rattle.phase_shared.specs.declared.next.Next.{Next}
 
 -- one phase further where a phase was signalled

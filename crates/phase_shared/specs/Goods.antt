@@ -1,7 +1,7 @@
 -- Which signals a phaser allows, and the histories that keep its rule.
 use Rattle.std.specs.Prelude.{ℕ, ℤ, List, [], ◌∷◌, Option, Some, None}
 use Rattle.phase_shared.specs.Phasers.{Limits, Single, History, IsLegal}
-use Rattle.phase_core.specs.phase_history.declared.event.Event.TheVariants.{Signalled}
+use Rattle.phase_history.specs.declared.event.Event.TheVariants.{Signalled}
 use Rattle.phase_shared.specs.declared.rule.Terms.{Terms}
 
 -- which signals are allowed after a history

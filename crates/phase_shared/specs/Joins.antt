@@ -2,8 +2,8 @@
 -- seen goes on.
 use Rattle.std.specs.Prelude.{◌≡◌, ℕ, ◌+◌, [], ◌∷◌, None, Result, Ok, Err}
 use Rattle.phase_shared.specs.Phasers.{Entry, History, greatest_used, done_of, entry_at, register_now_refusal, OthersCame, Operation, StandsForSends, RegisterRefusal}
-use Rattle.phase_core.specs.phase_base.declared.mode.Mode.TheVariants.{Wait}
-use Rattle.phase_core.specs.phase_history.declared.event.Event.TheVariants.{RegisteredNow}
+use Rattle.phase_base.specs.declared.mode.Mode.TheVariants.{Wait}
+use Rattle.phase_history.specs.declared.event.Event.TheVariants.{RegisteredNow}
 use Rattle.phase_shared.specs.Regs.{RegState}
 use Rattle.phase_shared.specs.Calls.{RefusesRegister}
 

@@ -24,8 +24,3 @@ pub mod Steps
 pub mod Tells
 pub mod Views
 pub mod WordTells
-pub use Rattle.phase_core.specs.phase_accum as phase_accum
-pub use Rattle.phase_core.specs.phase_base as phase_base
-pub use Rattle.phase_core.specs as phase_core
-pub use Rattle.phase_core.specs.phase_history as phase_history
-pub use Rattle.turn_lock.specs as turn_lock

@@ -3,7 +3,7 @@ use Rattle.std.specs.Prelude.{Option, Some, None, []}
 use Rattle.turn_lock.specs.declared.seat.Seat.{Seat}
 use Rattle.turn_lock.specs.declared.seat.Turn.{Turn}
 use Rattle.turn_lock.specs.Seats.{Place, IsSeatAt, IsTurnAt, seat_view, turn_value, turn_view, word_lock_name, word_lock_place}
-use Rattle.phase_core.specs.phase_base.Limits.{Limits}
+use Rattle.phase_base.specs.Limits.{Limits}
 use Rattle.phase_shared.specs.declared.rule.Terms.{Terms}
 use Rattle.phase_shared.specs.declared.seats.locked.LockedPhaser.{LockedPhaser}
 

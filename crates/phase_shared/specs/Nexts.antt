@@ -1,7 +1,7 @@
 -- A task's next phase: its signal where its mode signals, and then its wait where its mode waits.
 use Rattle.std.specs.Prelude.{◌≡◌, Bool, true, false, Option, Some, None, IsSome, Result, Ok, Err}
 use Rattle.phase_shared.specs.Phasers.{Limits, mode_signals, mode_waits, Operation, Single, SignalRefusal, History}
-use Rattle.phase_core.specs.phase_history.declared.refusal.SignalRefusal.TheVariants as signal
+use Rattle.phase_history.specs.declared.refusal.SignalRefusal.TheVariants as signal
 use Rattle.phase_shared.specs.declared.next.Next.{Next}
 use Rattle.phase_shared.specs.Regs.{RegState}
 use Rattle.phase_shared.specs.Calls.{Signals, Waits}

@@ -2,7 +2,7 @@
 -- what it has sent.
 use Rattle.std.specs.Prelude.{◌≡◌, ℕ, ℤ, List, [], ◌∷◌, ◌++◌, Option, Some, None, true, false}
 use Rattle.phase_shared.specs.Phasers.{mode_signals, Operation, Parcel, StandsForSends, Outcome, Got, History, received_by, sent_by}
-use Rattle.phase_core.specs.phase_history.declared.got.Got.TheVariants.{Value, Ended}
+use Rattle.phase_history.specs.declared.got.Got.TheVariants.{Value, Ended}
 use Rattle.phase_shared.specs.declared.next.Next.{Next}
 use Rattle.phase_shared.specs.Regs.{RegState}
 

@@ -1,7 +1,7 @@
 -- The rule of a shared phaser: there is one legal history, which keeps the phaser's rule.
 use Rattle.std.specs.Prelude.{◌≡◌, ℕ, ◌+◌, List, [], ◌∷◌, Option, Some, true, false}
 use Rattle.phase_shared.specs.Phasers.{Limits, Operation, Entry, entry_of, History, members_of, CoreState, StandsFor, OthersCame, IsUsed, is_distinct, is_in, Outcome}
-use Rattle.phase_core.specs.phase_history.declared.event.Event.TheVariants.{Made}
+use Rattle.phase_history.specs.declared.event.Event.TheVariants.{Made}
 use Rattle.phase_shared.specs.declared.seats.view.View.{View}
 use Rattle.phase_shared.specs.declared.rule.Terms.{Terms}
 use Rattle.phase_shared.specs.Views.{Unknown, resting, turning, speaks_of, known_of, second_of, Fits}

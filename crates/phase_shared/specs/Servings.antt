@@ -2,9 +2,9 @@
 use Rattle.std.specs.Prelude.{◌≡◌, ◌≢◌, ℕ, ◌+◌, ◌<◌, ◌≤◌, List, [], ◌∷◌, ◌++◌, ◌⊎◌, Bool, true, false, Option, Some, None, Result, Ok, Err}
 use Rattle.turn_lock.specs.Seats.{Place}
 use Rattle.phase_shared.specs.Phasers.{Limits, mode_signals, mode_waits, entry_of, Entry, Operation, StandsForSends, Outcome, SignalRefusal, History, IsAlive, members_of, done_of, value_of_phase, signal_phase, signal_refusal, wait_refusal, OthersCame, CoreState, StandsFor, is_in}
-use Rattle.phase_core.specs.phase_base.Members.{Members}
+use Rattle.phase_base.specs.Members.{Members}
 use Rattle.phase_shared.specs.Regs.{RegState}
-use Rattle.phase_core.specs.phase_history.declared.event.Event.TheVariants.{Signalled, Waited}
+use Rattle.phase_history.specs.declared.event.Event.TheVariants.{Signalled, Waited}
 use Rattle.phase_shared.specs.declared.seats.view.View.{View}
 use Rattle.phase_shared.specs.declared.seats.view.View.TheVariants.{Asking}
 use Rattle.phase_shared.specs.declared.seats.request.Request.{Request}

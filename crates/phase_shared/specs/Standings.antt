@@ -2,7 +2,7 @@
 use Rattle.std.specs.Prelude.{◌≡◌, ℕ, [], ◌∷◌, Result, Ok, Err}
 use Rattle.phase_core.specs.Standings.{standing_after}
 use Rattle.phase_core.specs.declared.standing.Standing.{Standing}
-use Rattle.phase_core.specs.phase_history.declared.refusal.NoTask.{NoTask}
+use Rattle.phase_history.specs.declared.refusal.NoTask.{NoTask}
 use Rattle.phase_shared.specs.Phasers.{History, OthersCame}
 
 -- events of others, and there how the phaser stands. It makes no event

@@ -5,7 +5,7 @@ use Rattle.turn_lock.specs.declared.seat.Seat.{Seat}
 use Rattle.turn_lock.specs.WordSteps.{GivesOf}
 use Rattle.turn_lock.specs.Seats.{seat_view}
 use Rattle.phase_shared.specs.Phasers.{is_distinct, Entry, Mode, RegisterRefusal, History, entry_at, OnlyUsed, OthersCame}
-use Rattle.phase_core.specs.phase_base.declared.mode.Mode.TheVariants.{Wait}
+use Rattle.phase_base.specs.declared.mode.Mode.TheVariants.{Wait}
 use Rattle.phase_shared.specs.declared.seats.locked.LockedPhaser.{LockedPhaser}
 use Rattle.phase_shared.specs.declared.seats.view.View.{View}
 use Rattle.phase_shared.specs.declared.rule.Terms.{Terms}

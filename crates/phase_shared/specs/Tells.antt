@@ -1,7 +1,7 @@
 -- What the steps of a seat tell it.
 use Rattle.std.specs.Prelude.{◌≡◌, ◌≢◌, ℕ, ℤ, ◌+◌, ◌<◌, ◌≤◌, ◌/◌, ◌%◌, List, [], ◌∷◌, ◌++◌, ◌⊎◌, None, false}
 use Rattle.phase_shared.specs.Phasers.{Limits, is_in, Outcome, History, done_of, value_of_phase, wait_refusal, OthersCame}
-use Rattle.phase_core.specs.phase_history.declared.event.Event.TheVariants.{Waited}
+use Rattle.phase_history.specs.declared.event.Event.TheVariants.{Waited}
 use Rattle.phase_shared.specs.Goods.{Allows, IsGood}
 use Rattle.phase_shared.specs.declared.seats.view.Knowledge.{Knowledge}
 use Rattle.phase_shared.specs.Views.{Lane, Own, Holds, knowledge, speaks_of, known_of, lane_at_rest}

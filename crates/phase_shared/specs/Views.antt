@@ -1,7 +1,7 @@
 -- What a seat knows: the history that it has seen, and the tasks that it speaks for.
 use Rattle.std.specs.Prelude.{◌≡◌, ℕ, List, [], ◌∷◌, ◌++◌, Bool, true, false, None, take, drop}
 use Rattle.phase_shared.specs.Phasers.{History, OthersCame, Outcome}
-use Rattle.phase_core.specs.phase_accum.declared.outcome.Outcome.TheVariants.{Empty}
+use Rattle.phase_accum.specs.declared.outcome.Outcome.TheVariants.{Empty}
 use Rattle.phase_shared.specs.declared.seats.view.Ask.{Ask}
 use Rattle.phase_shared.specs.declared.seats.view.Knowledge.{Knowledge}
 pub use Rattle.phase_shared.specs.declared.seats.view.Lane.{Lane}

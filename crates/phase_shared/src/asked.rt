@@ -1,9 +1,9 @@
 //! A registration that has asked for its next phase, between two calls.
 ghost use Rattle.std.specs.Prelude.{◌≡◌, [], true, Some, None, Ok, IfOk, IfErr};
-ghost use Rattle.phase_core.specs.phase_base.Members.{entry_of};
-ghost use Rattle.phase_core.specs.phase_base.Modes.{mode_signals, mode_waits};
-ghost use Rattle.phase_core.specs.phase_accum.Parcels.{Parcel, StandsForSends};
-ghost use Rattle.phase_core.specs.phase_history.Histories.{members_of};
+ghost use Rattle.phase_base.specs.Members.{entry_of};
+ghost use Rattle.phase_base.specs.Modes.{mode_signals, mode_waits};
+ghost use Rattle.phase_accum.specs.Parcels.{Parcel, StandsForSends};
+ghost use Rattle.phase_history.specs.Histories.{members_of};
 ghost use Rattle.phase_shared.specs.Asked.{HasGone, HasTakenBack, entry_gone, entry_signalled};
 ghost use Rattle.phase_shared.specs.Calls.{MaySignal};
 ghost use Rattle.phase_shared.specs.Regs.{IsGoodOn, IsReg, reg_state, phaser_lock, phaser_terms};
@@ -19,8 +19,8 @@ use crate::seats::asked;
 use crate::seats::request::Request;
 use crate::seats::spins::Spins;
 use crate::seats::view::PhaserSeat;
-use phase_core::phase_accum::{Accumulate, Outcome};
-use phase_core::phase_base::Entry;
+use phase_accum::{Accumulate, Outcome};
+use phase_base::Entry;
 use phase_core::{Got, SignalRefusal};
 use std::marker::{Brand, Model};
 

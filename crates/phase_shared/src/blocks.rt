@@ -1,7 +1,7 @@
 //! The calls of a registration on blocks of phases, and on a waiter that joins now, that wait for
 //! nobody.
 ghost use Rattle.std.specs.Prelude.{◌≡◌, ◌≤◌, IfErr, length};
-ghost use Rattle.phase_core.specs.phase_accum.Sends.{AreSends};
+ghost use Rattle.phase_accum.specs.Sends.{AreSends};
 ghost use Rattle.phase_shared.specs.Regs.{phaser_lock, phaser_terms, phaser_limits};
 ghost use Rattle.phase_shared.specs.Calls.{IsTry, Tries};
 ghost use Rattle.phase_shared.specs.Entries.{entry_stays};
@@ -15,7 +15,7 @@ use crate::rule::SignalRule;
 use crate::seats::spins::Spins;
 use crate::seats::{block_steps, join_steps};
 use crate::tried::Tried;
-use phase_core::phase_accum::{Accumulate, Outcome, Pending, Single};
+use phase_accum::{Accumulate, Outcome, Pending, Single};
 use phase_core::{GotBlock, RegisterRefusal, SignalRefusal, WaitRefusal};
 
 impl<A: Accumulate, K: SignalRule> Reg<A, K> {

@@ -1,6 +1,6 @@
 //! An end for all: a phaser is closed, and the calls that wait no longer then.
 ghost use Rattle.std.specs.Prelude.{◌≡◌, ◌≢◌, [], Err, OnOk, OnErr};
-ghost use Rattle.phase_core.specs.phase_accum.Parcels.{StandsForSends};
+ghost use Rattle.phase_accum.specs.Parcels.{StandsForSends};
 ghost use Rattle.phase_shared.specs.Regs.{phaser_lock, phaser_terms, phaser_limits};
 ghost use Rattle.phase_shared.specs.Calls.{IsCall, Signals, Waits, MaySignal};
 ghost use Rattle.phase_shared.specs.Entries.{entry_after_signal, entry_after_wait};
@@ -12,7 +12,7 @@ use crate::phaser::Phaser;
 use crate::reg::Reg;
 use crate::rule::SignalRule;
 use crate::stopped::{self, Stopped};
-use phase_core::phase_accum::{Accumulate, Outcome, Single};
+use phase_accum::{Accumulate, Outcome, Single};
 use phase_core::{Got, GotBlock, SignalRefusal, WaitRefusal};
 use std::sync::Wait;
 

@@ -10,8 +10,8 @@ use crate::phaser::Phaser;
 use crate::reg::Reg;
 use crate::rule::SignalRule;
 use crate::stopped::{self, Stopped};
+use phase_accum::{Accumulate, Pending, Single};
 use phase_core::SignalRefusal;
-use phase_core::phase_accum::{Accumulate, Pending, Single};
 use std::sync::Wait;
 
 impl<A: Accumulate, K: SignalRule> Reg<A, K> {

@@ -1,6 +1,6 @@
 //! A registration's next phase, where its calls wait no longer than until the phaser is closed.
 ghost use Rattle.std.specs.Prelude.{◌≡◌, ◌≢◌, ◌&&◌, true, Err, is_ok};
-ghost use Rattle.phase_core.specs.phase_base.Modes.{mode_signals, mode_waits};
+ghost use Rattle.phase_base.specs.Modes.{mode_signals, mode_waits};
 ghost use Rattle.phase_shared.specs.Rule.{IsGoodAt};
 ghost use Rattle.phase_shared.specs.Regs.{phaser_lock, phaser_terms, phaser_limits};
 ghost use Rattle.phase_shared.specs.Calls.{IsCall, MaySignal, HeldAfter};
@@ -12,7 +12,7 @@ use crate::phaser::Phaser;
 use crate::reg::Reg;
 use crate::rule::SignalRule;
 use crate::stopped::Stopped;
-use phase_core::phase_accum::{Accumulate, Single};
+use phase_accum::{Accumulate, Single};
 use phase_core::{Got, SignalRefusal};
 use std::sync::Wait;
 

@@ -1,12 +1,12 @@
 //! The sends that a registration holds, and the word that says them where they are few.
 ghost use Rattle.std.specs.Prelude.{◌≡◌, ◌≢◌, ◌↔◌, ◌+◌, ℤ, List, [], ◌∷◌, ◌++◌, OnOk, OnErr, IfSome};
-ghost use Rattle.phase_core.specs.phase_base.declared.limits.TheConstants.{SENDS_MAX};
-ghost use Rattle.phase_core.specs.phase_accum.declared.outcome.TheConstants.{NO_VALUE};
-ghost use Rattle.phase_core.specs.phase_accum.Parcels.{StandsForSends};
+ghost use Rattle.phase_base.specs.declared.limits.TheConstants.{SENDS_MAX};
+ghost use Rattle.phase_accum.specs.declared.outcome.TheConstants.{NO_VALUE};
+ghost use Rattle.phase_accum.specs.Parcels.{StandsForSends};
 ghost use Rattle.phase_shared.specs.Lanes.{sends_of};
 
 use crate::lane_words::{NO_SEND, word_of};
-use phase_core::phase_accum::{Accumulate, Pending, SendFault};
+use phase_accum::{Accumulate, Pending, SendFault};
 use std::marker::Model;
 
 // Sends that are held. The word says them, where they are none, or one that came alone.
@@ -18,7 +18,7 @@ pub struct Held<A: Accumulate> {
 
 impl<A: Accumulate> Model for Held<A> {
     ghost use Rattle.std.specs.Prelude.{IfSome};
-    ghost use Rattle.phase_core.specs.phase_accum.Parcels.{Parcel, StandsForSends};
+    ghost use Rattle.phase_accum.specs.Parcels.{Parcel, StandsForSends};
     ghost use Rattle.phase_shared.specs.Lanes.{sends_of};
 
     ghost Value = { Parcel A };

@@ -1,9 +1,9 @@
 //! What words beside a phaser's lock say.
 ghost use Rattle.std.specs.Prelude.{◌≡◌, ◌<◌, ◌≢◌};
-ghost use Rattle.phase_core.specs.phase_accum.Parcels.{StandsForSends};
+ghost use Rattle.phase_accum.specs.Parcels.{StandsForSends};
 ghost use Rattle.phase_shared.specs.Lanes as lanes;
 
-use phase_core::phase_accum::{Accumulate, Outcome, Pending};
+use phase_accum::{Accumulate, Outcome, Pending};
 
 /// How many lanes there are.
 pub const LANES: u64 = 16;

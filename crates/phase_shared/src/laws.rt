@@ -2,29 +2,29 @@
 //! of what it has sent. Each function here makes no call and has no effect: its contract is a law,
 //! which a caller has by calling it.
 ghost use Rattle.std.specs.Prelude.{◌≡◌, ◌≤◌, ℕ, ℤ, List, Option, Result, Ok, Err, Some, Bool, true, map};
-ghost use Rattle.phase_core.specs.phase_base.Limits.{Limits};
-ghost use Rattle.phase_core.specs.phase_base.Members.{entry_of};
-ghost use Rattle.phase_core.specs.phase_base.declared.entry.Entry.{Entry};
-ghost use Rattle.phase_core.specs.phase_base.declared.mode.Mode.{Mode};
-ghost use Rattle.phase_core.specs.phase_accum.Parcels.{Parcel};
-ghost use Rattle.phase_core.specs.phase_accum.declared.outcome.Outcome.{Outcome};
-ghost use Rattle.phase_core.specs.phase_accum.declared.single.Single.{Single};
-ghost use Rattle.phase_core.specs.phase_history.declared.got.Got.{Got};
-ghost use Rattle.phase_core.specs.phase_history.declared.refusal.RegisterRefusal.{RegisterRefusal};
-ghost use Rattle.phase_core.specs.phase_history.declared.refusal.SignalRefusal.{SignalRefusal};
-ghost use Rattle.phase_core.specs.phase_history.declared.refusal.WaitRefusal.{WaitRefusal};
-ghost use Rattle.phase_core.specs.phase_history.Histories.{History, HasNoSignaller, members_of, done_of, wait_phase, start_of, entry_at, has_dropped};
-ghost use Rattle.phase_core.specs.phase_history.Phases.{received_by};
-ghost use Rattle.phase_core.specs.phase_history.Legal.{IsLegal};
-ghost use Rattle.phase_core.specs.phase_history.Others.{OthersCame};
-ghost use Rattle.phase_core.specs.phase_base.Lists.{is_in};
+ghost use Rattle.phase_base.specs.Limits.{Limits};
+ghost use Rattle.phase_base.specs.Members.{entry_of};
+ghost use Rattle.phase_base.specs.declared.entry.Entry.{Entry};
+ghost use Rattle.phase_base.specs.declared.mode.Mode.{Mode};
+ghost use Rattle.phase_accum.specs.Parcels.{Parcel};
+ghost use Rattle.phase_accum.specs.declared.outcome.Outcome.{Outcome};
+ghost use Rattle.phase_accum.specs.declared.single.Single.{Single};
+ghost use Rattle.phase_history.specs.declared.got.Got.{Got};
+ghost use Rattle.phase_history.specs.declared.refusal.RegisterRefusal.{RegisterRefusal};
+ghost use Rattle.phase_history.specs.declared.refusal.SignalRefusal.{SignalRefusal};
+ghost use Rattle.phase_history.specs.declared.refusal.WaitRefusal.{WaitRefusal};
+ghost use Rattle.phase_history.specs.Histories.{History, HasNoSignaller, members_of, done_of, wait_phase, start_of, entry_at, has_dropped};
+ghost use Rattle.phase_history.specs.Phases.{received_by};
+ghost use Rattle.phase_history.specs.Legal.{IsLegal};
+ghost use Rattle.phase_history.specs.Others.{OthersCame};
+ghost use Rattle.phase_base.specs.Lists.{is_in};
 ghost use Rattle.phase_shared.specs.declared.next.Next.{Next};
 ghost use Rattle.phase_shared.specs.Calls.{Signals, Waits, HasRegistered, RefusesRegister, Leaves};
 ghost use Rattle.phase_shared.specs.Nexts.{GoesNext, RefusesNext};
 ghost use Rattle.phase_shared.specs.Regs.{RegState};
 ghost use Rattle.phase_shared.specs.Parts.{PartStays, HasNoPart, SendsHeld, Gets, SendsAndGets};
 
-use phase_core::phase_accum::Accumulate;
+use phase_accum::Accumulate;
 
 mod blocks;
 

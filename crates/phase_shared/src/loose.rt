@@ -4,7 +4,7 @@ ghost use Rattle.std.specs.Prelude.{◌≡◌};
 use crate::asked::Asked;
 use crate::reg::Reg;
 use crate::rule::SignalRule;
-use phase_core::phase_accum::Accumulate;
+use phase_accum::Accumulate;
 
 /// A registration that may be thrown away. It then stays registered for ever, and no phase that
 /// lacks its signal is ever complete.

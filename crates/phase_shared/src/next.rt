@@ -1,6 +1,6 @@
 //! A registration's next phase, by one call.
 ghost use Rattle.std.specs.Prelude.{◌≡◌, ◌≢◌, true, Some, None, Ok, Err, IfSome, IfNone, is_ok, ◌&&◌};
-ghost use Rattle.phase_core.specs.phase_base.Modes.{mode_signals, mode_waits};
+ghost use Rattle.phase_base.specs.Modes.{mode_signals, mode_waits};
 ghost use Rattle.phase_shared.specs.Rule.{IsGoodAt};
 ghost use Rattle.phase_shared.specs.Regs.{phaser_lock, phaser_terms, phaser_limits};
 ghost use Rattle.phase_shared.specs.Calls.{IsCall, Waits, MaySignal, HeldAfter};
@@ -17,7 +17,7 @@ use crate::rule::SignalRule;
 use crate::seats::nexts;
 use crate::seats::request::Request;
 use crate::tried::Tried;
-use phase_core::phase_accum::{Accumulate, Single};
+use phase_accum::{Accumulate, Single};
 use phase_core::{Got, SignalRefusal};
 use std::marker::Brand;
 use std::sync::Wait;

@@ -1,8 +1,8 @@
 //! A rule as an example: every signal has exactly one send.
 ghost use Rattle.std.specs.Prelude.{◌≡◌, ◌≢◌, [], ◌∷◌, true, None, OnOk, OnErr};
-ghost use Rattle.phase_core.specs.phase_base.Modes.{mode_signals};
-ghost use Rattle.phase_core.specs.phase_accum.declared.outcome.TheConstants.{NO_VALUE};
-ghost use Rattle.phase_core.specs.phase_accum.Parcels.{StandsForSends};
+ghost use Rattle.phase_base.specs.Modes.{mode_signals};
+ghost use Rattle.phase_accum.specs.declared.outcome.TheConstants.{NO_VALUE};
+ghost use Rattle.phase_accum.specs.Parcels.{StandsForSends};
 ghost use Rattle.phase_shared.specs.Calls.{IsTry, Tries};
 ghost use Rattle.phase_shared.specs.Entries.{entry_after_signal};
 ghost use Rattle.phase_shared.specs.OneSends.{allows_one_send};
@@ -13,8 +13,8 @@ use crate::phaser::Phaser;
 use crate::reg::Reg;
 use crate::rule::SignalRule;
 use crate::tried::Tried;
+use phase_accum::Accumulate;
 use phase_core::SignalRefusal;
-use phase_core::phase_accum::Accumulate;
 
 /// The rule that allows the signals of one send.
 #[derive(Clone, Copy, Debug, PartialEq, Eq)]

@@ -1,7 +1,7 @@
 //! What registrations that left have seen.
 ghost use Rattle.std.specs.Prelude.{◌≡◌, ◌++◌, true};
-ghost use Rattle.phase_core.specs.phase_history.Others.{OthersCame};
-ghost use Rattle.phase_core.specs.phase_base.Lists.{is_distinct};
+ghost use Rattle.phase_history.specs.Others.{OthersCame};
+ghost use Rattle.phase_base.specs.Lists.{is_distinct};
 ghost use Rattle.phase_shared.specs.Rule.{IsGoodAt};
 ghost use Rattle.phase_shared.specs.Regs.{phaser_lock, phaser_terms, IsGoodOn};
 
@@ -9,7 +9,7 @@ use crate::phaser::Phaser;
 use crate::rule::SignalRule;
 use crate::seats::steps;
 use crate::seats::view::PhaserSeat;
-use phase_core::phase_accum::Accumulate;
+use phase_accum::Accumulate;
 use std::marker::Model;
 
 /// What registrations that left have seen: one history, and the numbers of those whose calls it

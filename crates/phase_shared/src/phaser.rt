@@ -1,9 +1,9 @@
 //! A phaser that many threads use.
 ghost use Rattle.std.specs.Prelude.{◌≡◌, [], ◌∷◌, IfOk};
-ghost use Rattle.phase_core.specs.phase_accum.Parcels.{StandsForSends};
-ghost use Rattle.phase_core.specs.phase_history.declared.event.Event.TheVariants.{Made};
-ghost use Rattle.phase_core.specs.phase_history.Histories.{founder};
-ghost use Rattle.phase_core.specs.phase_history.Others.{OnlyUsed};
+ghost use Rattle.phase_accum.specs.Parcels.{StandsForSends};
+ghost use Rattle.phase_history.specs.declared.event.Event.TheVariants.{Made};
+ghost use Rattle.phase_history.specs.Histories.{founder};
+ghost use Rattle.phase_history.specs.Others.{OnlyUsed};
 ghost use Rattle.phase_shared.specs.Rule.{IsGoodAt};
 ghost use Rattle.phase_shared.specs.Regs.{phaser_lock, phaser_terms, phaser_limits};
 
@@ -12,8 +12,8 @@ use crate::reg::Reg;
 use crate::rule::{SignalRule, Terms};
 use crate::seats::locked::LockedPhaser;
 use crate::seats::spins::Spins;
-use phase_core::phase_accum::Accumulate;
-use phase_core::phase_base::{Entry, Mode, Spec};
+use phase_accum::Accumulate;
+use phase_base::{Entry, Mode, Spec};
 use std::alloc::{AllocError, Global};
 
 /// A phaser between threads, which use it by shared reference. Each has registrations of its own.

@@ -1,8 +1,8 @@
 //! A signal of a registration with one value, by one call.
 ghost use Rattle.std.specs.Prelude.{◌≡◌, ◌≢◌, [], ◌∷◌, true, false, OnOk, OnErr};
-ghost use Rattle.phase_core.specs.phase_base.Modes.{mode_signals};
-ghost use Rattle.phase_core.specs.phase_accum.declared.outcome.TheConstants.{NO_VALUE};
-ghost use Rattle.phase_core.specs.phase_accum.Parcels.{StandsForSends};
+ghost use Rattle.phase_base.specs.Modes.{mode_signals};
+ghost use Rattle.phase_accum.specs.declared.outcome.TheConstants.{NO_VALUE};
+ghost use Rattle.phase_accum.specs.Parcels.{StandsForSends};
 ghost use Rattle.phase_shared.specs.Regs.{phaser_lock, phaser_terms, phaser_limits};
 ghost use Rattle.phase_shared.specs.Calls.{IsTry, Tries};
 ghost use Rattle.phase_shared.specs.Entries.{entry_after_signal};
@@ -13,8 +13,8 @@ use crate::refusal::SendRefusal;
 use crate::reg::Reg;
 use crate::rule::SignalRule;
 use crate::tried::Tried;
+use phase_accum::{Accumulate, Single};
 use phase_core::SignalRefusal;
-use phase_core::phase_accum::{Accumulate, Single};
 
 impl<A: Accumulate, K: SignalRule> Reg<A, K> {
     /// Signals its phase with this value as its one send, and a single or none, and answers that

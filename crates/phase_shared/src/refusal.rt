@@ -2,8 +2,8 @@
 ghost use Rattle.std.specs.Prelude.{◌≡◌, ◌≢◌, ◌⊎◌, IfSome, IfNone};
 
 use crate::tried::Tried;
-use phase_core::phase_accum::NO_VALUE;
-use phase_core::phase_base::SENDS_MAX;
+use phase_accum::NO_VALUE;
+use phase_base::SENDS_MAX;
 use phase_core::{SignalRefusal, WaitRefusal};
 use thiserror::Error;
 

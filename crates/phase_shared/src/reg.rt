@@ -1,11 +1,11 @@
 //! A registration, and what it reads and holds without a turn.
 ghost use Rattle.std.specs.Prelude.{◌≡◌, ◌≢◌, ◌↔◌, ◌+◌, ℤ, List, [], ◌∷◌, ◌++◌, Some, is_some, Err, OnOk, OnErr, true, false};
-ghost use Rattle.phase_core.specs.phase_base.declared.limits.TheConstants.{SENDS_MAX};
-ghost use Rattle.phase_core.specs.phase_base.Members.{entry_of};
-ghost use Rattle.phase_core.specs.phase_base.Modes.{mode_signals};
-ghost use Rattle.phase_core.specs.phase_accum.declared.outcome.TheConstants.{NO_VALUE};
-ghost use Rattle.phase_core.specs.phase_accum.Parcels.{StandsForSends};
-ghost use Rattle.phase_core.specs.phase_history.Histories.{members_of};
+ghost use Rattle.phase_base.specs.declared.limits.TheConstants.{SENDS_MAX};
+ghost use Rattle.phase_base.specs.Members.{entry_of};
+ghost use Rattle.phase_base.specs.Modes.{mode_signals};
+ghost use Rattle.phase_accum.specs.declared.outcome.TheConstants.{NO_VALUE};
+ghost use Rattle.phase_accum.specs.Parcels.{StandsForSends};
+ghost use Rattle.phase_history.specs.Histories.{members_of};
 ghost use Rattle.phase_shared.specs.Regs.{IsGoodOn};
 
 use crate::held::Held;
@@ -14,8 +14,8 @@ use crate::refusal::SendRefusal;
 use crate::rule::SignalRule;
 use crate::seats::spins::Spins;
 use crate::seats::view::PhaserSeat;
-use phase_core::phase_accum::{Accumulate, Pending, SendFault};
-use phase_core::phase_base::{Entry, Mode};
+use phase_accum::{Accumulate, Pending, SendFault};
+use phase_base::{Entry, Mode};
 use std::marker::Model;
 
 /// One registration on a phaser, which any one thread has at a time.

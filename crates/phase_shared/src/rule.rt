@@ -1,9 +1,9 @@
 //! What a phaser between threads is told when it is made.
 ghost use Rattle.std.specs.Prelude.{ℕ, ℤ, List, Option};
-ghost use Rattle.phase_core.specs.phase_accum.declared.single.Single.{Single};
-ghost use Rattle.phase_core.specs.phase_history.Histories.{History};
+ghost use Rattle.phase_accum.specs.declared.single.Single.{Single};
+ghost use Rattle.phase_history.specs.Histories.{History};
 
-use phase_core::phase_base::Spec;
+use phase_base::Spec;
 use std::sync::atomic::AtomicU64;
 
 /// Which signals a phaser allows: plain data, by which every task on the phaser abides.

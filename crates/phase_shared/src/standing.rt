@@ -12,7 +12,7 @@ use crate::reg::{Reg, taken};
 use crate::rule::SignalRule;
 use crate::seats::looks;
 use crate::tried::Tried;
-use phase_core::phase_accum::Accumulate;
+use phase_accum::Accumulate;
 use phase_core::{NoTask, Standing};
 use std::sync::Wait;
 

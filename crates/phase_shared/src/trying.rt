@@ -1,8 +1,8 @@
 //! The calls of a registration that wait for nobody.
 ghost use Rattle.std.specs.Prelude.{◌≡◌, ◌≢◌, [], ◌∷◌, Err, IfOk, IfErr, IsOk, OnOk, OnErr};
 ghost use Rattle.std.specs.Result.{result_ok};
-ghost use Rattle.phase_core.specs.phase_accum.Parcels.{StandsForSends};
-ghost use Rattle.phase_core.specs.phase_history.Others.{OnlyUsed, OthersCame};
+ghost use Rattle.phase_accum.specs.Parcels.{StandsForSends};
+ghost use Rattle.phase_history.specs.Others.{OnlyUsed, OthersCame};
 ghost use Rattle.phase_shared.specs.Rule.{IsGoodAt};
 ghost use Rattle.phase_shared.specs.Regs.{phaser_lock, phaser_terms, phaser_limits};
 ghost use Rattle.phase_shared.specs.Calls.{IsTry, Tries, Signals, Waits, Registers, MaySignal, Leaves};
@@ -19,8 +19,8 @@ use crate::seats::places::{Lodgings, give_back};
 use crate::seats::spins::Spins;
 use crate::seats::steps;
 use crate::tried::Tried;
-use phase_core::phase_accum::{Accumulate, Single};
-use phase_core::phase_base::Mode;
+use phase_accum::{Accumulate, Single};
+use phase_base::Mode;
 use phase_core::{Got, RegisterRefusal, SignalRefusal, WaitRefusal};
 
 impl<A: Accumulate, K: SignalRule> Reg<A, K> {

@@ -1,7 +1,7 @@
 //! The calls of a registration that may wait.
 ghost use Rattle.std.specs.Prelude.{◌≡◌, ◌≢◌, [], ◌∷◌, Err, OnOk, OnErr};
 ghost use Rattle.std.specs.Result.{result_ok};
-ghost use Rattle.phase_core.specs.phase_accum.Parcels.{StandsForSends};
+ghost use Rattle.phase_accum.specs.Parcels.{StandsForSends};
 ghost use Rattle.phase_shared.specs.Rule.{IsGoodAt};
 ghost use Rattle.phase_shared.specs.Regs.{phaser_lock, phaser_terms, phaser_limits};
 ghost use Rattle.phase_shared.specs.Calls.{IsCall, Signals, Waits, Registers, MaySignal, Leaves};
@@ -15,8 +15,8 @@ use crate::refusal;
 use crate::reg::Reg;
 use crate::rule::SignalRule;
 use crate::tried::Tried;
-use phase_core::phase_accum::{Accumulate, Single};
-use phase_core::phase_base::Mode;
+use phase_accum::{Accumulate, Single};
+use phase_base::Mode;
 use phase_core::{Got, RegisterRefusal, SignalRefusal, WaitRefusal};
 use std::sync::Wait;
 

@@ -12,7 +12,7 @@ use crate::refusal;
 use crate::reg::Reg;
 use crate::rule::SignalRule;
 use crate::tried::Tried;
-use phase_core::phase_accum::{Accumulate, Outcome, Pending, Single};
+use phase_accum::{Accumulate, Outcome, Pending, Single};
 use phase_core::{GotBlock, RegisterRefusal, SignalRefusal, WaitRefusal};
 use std::sync::Wait;
 

@@ -9,15 +9,15 @@ use Rattle.graph_commands.specs.FileJobs.{Known}
 use Rattle.graph_commands.specs.declared.failure.Failure.{Failure}
 use Rattle.graph_commands.specs.declared.failure.Failure.TheVariants as failure
 use Rattle.graph_commands.specs.declared.fault.JobFault.TheVariants as fault
-use Rattle.graph_commands.specs.watched_io.States.{WriterState, writer_state}
-use Rattle.graph_commands.specs.watched_io.declared.status.Status.{Status}
-use Rattle.graph_commands.specs.watched_io.declared.watched.Watched.{Watched}
+use Rattle.watched_io.specs.States.{WriterState, writer_state}
+use Rattle.watched_io.specs.declared.status.Status.{Status}
+use Rattle.watched_io.specs.declared.watched.Watched.{Watched}
 use Rattle.graph_commands.specs.OutputTexts.{value_text}
 use Rattle.phase_words.specs.StreamLine.{Stream}
 use Rattle.stream_job.specs.SinkLines.{kept_by}
-use Rattle.stream_job.specs.graph_runs.Moments.{Moment}
-use Rattle.stream_job.specs.stream_lists.Jobs.{Job}
-use Rattle.stream_job.specs.stream_lists.Lists.{sinks_of}
+use Rattle.graph_runs.specs.Moments.{Moment}
+use Rattle.stream_lists.specs.Jobs.{Job}
+use Rattle.stream_lists.specs.Lists.{sinks_of}
 use Rattle.phase_stream.specs.Outputs.{HasSinks, IsUnbegunStream, LacksSink, StopBehind, StopKept, StopOf, StreamDoes, StreamEndsBy, StreamFailsBy, WriteParts, WriteWhole, bare_at, is_asked, only_of, output_task, task_to, writers_at}
 use Rattle.phase_stream.specs.Sessions.{HasFailed}
 use Rattle.phase_stream.specs.Streams.{AsksNone, AsksOne, IsFaultBehind, IsNoStream, IsStandstill, EndsInRecord, StopsBehind, StopsKept, StopsOf, StreamEnds, StreamFails, Streams, WritesPart, WritesWhole}

@@ -5,10 +5,10 @@ use Rattle.std.specs.Str.{bytes_eq}
 use Rattle.std.proofs.lemmas.Bool.{and_parts}
 use Rattle.std.proofs.lemmas.Option.{same_Some}
 use Rattle.graph_commands.specs.GraphRuns.{sink_named}
-use Rattle.stream_job.specs.graph_base.Graphs.{name_at}
-use Rattle.stream_job.specs.graph_base.declared.place.Place.TheVariants as place
-use Rattle.stream_job.specs.stream_lists.Jobs.{Job}
-use Rattle.stream_job.specs.stream_lists.Lists.{is_sink_at}
+use Rattle.graph_base.specs.Graphs.{name_at}
+use Rattle.graph_base.specs.declared.place.Place.TheVariants as place
+use Rattle.stream_lists.specs.Jobs.{Job}
+use Rattle.stream_lists.specs.Lists.{is_sink_at}
 
 -- the number that is found in a range is one of it, and passes
 found_from : (test : ℕ → Bool) (from many n : ℕ) → find test (range_with_len from many) ≡ Some n

@@ -6,9 +6,9 @@ use Rattle.graph_commands.specs.FileJobs.{Known}
 use Rattle.graph_commands.specs.OutputTexts.{value_text}
 use Rattle.stream_job.specs.Machines.{none_given}
 use Rattle.stream_job.specs.Streams.{IsSourceAt, none_came}
-use Rattle.stream_job.specs.graph_base.Graphs.{file_at, sources_of}
-use Rattle.stream_job.specs.graph_runs.Beginnings.{opening}
-use Rattle.stream_job.specs.stream_lists.Jobs.{Job}
+use Rattle.graph_base.specs.Graphs.{file_at, sources_of}
+use Rattle.graph_runs.specs.Beginnings.{opening}
+use Rattle.stream_lists.specs.Jobs.{Job}
 use Rattle.phase_stream.specs.Sessions.{IsStreamAtOpening, StandsFresh, task_for}
 use Rattle.phase_stream.specs.Sources.{AreUnopened, HasComeOf, IsSource}
 use Rattle.phase_stream.specs.declared.session.Session.{Session}

@@ -4,7 +4,6 @@ use Rattle.std.proofs.KnownBytes.{Appends-nil}
 use Rattle.std.specs.Prelude.{IfErr, OnOk}
 use Rattle.std.specs.Io.KnownBytes.{Appends, Keeps}
 use Rattle.std.specs.declared.result.Result.{Result}
-use Rattle.graph_commands.specs.Ends.{IsTold}
 use Rattle.graph_commands.specs.Failures.{failure_status}
 use Rattle.graph_commands.specs.FileJobs.{IsGraphOf, Known}
 use Rattle.graph_commands.specs.GraphRuns.{job_status}
@@ -12,21 +11,21 @@ use Rattle.graph_commands.specs.declared.failure.Failure.{Failure}
 use Rattle.graph_commands.specs.declared.failure.Failure.TheVariants as failure
 use Rattle.graph_commands.specs.declared.fault.JobFault.{JobFault}
 use Rattle.graph_commands.specs.declared.fault.JobFault.TheVariants as fault
-use Rattle.graph_commands.specs.watched_io.States.{WriterState}
-use Rattle.graph_commands.specs.watched_io.declared.explain.Explain.{Explain}
-use Rattle.graph_commands.specs.watched_io.declared.fault.IoFault.{IoFault}
-use Rattle.graph_commands.specs.watched_io.declared.fault.IoFault.TheVariants as io_fault
-use Rattle.graph_commands.specs.watched_io.declared.status.Status.{Status}
-use Rattle.graph_commands.specs.watched_io.declared.status.Status.TheVariants.{Done}
-use Rattle.graph_commands.specs.watched_io.declared.watched.Watched.{Watched}
+use Rattle.watched_io.specs.States.{WriterState}
+use Rattle.watched_io.specs.declared.explain.Explain.{Explain}
+use Rattle.watched_io.specs.declared.fault.IoFault.{IoFault}
+use Rattle.watched_io.specs.declared.fault.IoFault.TheVariants as io_fault
+use Rattle.watched_io.specs.declared.status.Status.{Status}
+use Rattle.watched_io.specs.declared.status.Status.TheVariants.{Done}
+use Rattle.watched_io.specs.declared.watched.Watched.{Watched}
 use Rattle.graph_commands.proofs.Needed.{needed-graph}
 use Rattle.phase_words.specs.Outputs.{Pair}
 use Rattle.phase_words.specs.StreamLine.{Stream}
-use Rattle.stream_job.specs.graph_base.Graphs.{Graph}
-use Rattle.stream_job.specs.stream_lists.Jobs.{Job}
+use Rattle.graph_base.specs.Graphs.{Graph}
+use Rattle.stream_lists.specs.Jobs.{Job}
 use Rattle.phase_stream.specs.Ends.{MayEndAsStream}
-use Rattle.phase_stream.specs.Outputs.{AreNoSources, AreBare, HasSinks, IsAsAsked, IsUnbegunStream, IsUnmadeFile, IsUnreadGraph, StopOf, StreamDoes, StreamEndsBy, StreamFailsBy, WriteWhole, bare_at, bare_file, task_to, writers_at}
-use Rattle.phase_stream.specs.Streams.{explained}
+use Rattle.phase_stream.specs.Outputs.{AreNotRead, AreBare, AreMadeLast, HasSinks, IsAsAsked, IsUnbegunStream, IsUnmadeFile, IsUnreadGraph, StopOf, StreamDoes, StreamEndsBy, StreamFailsBy, WriteWhole, bare_at, bare_file, task_to, writers_at}
+use Rattle.phase_stream.specs.Streams.{IsStreamTold, explained}
 use Rattle.phase_stream.specs.Tables.{TableDoes, TableEnds, TableFails}
 
 -- ---- statuses
@@ -68,7 +67,7 @@ pub stream_ends : {A W V : Type 0} (Quiet : Type 0) (known : Known) (what : Stre
     → IfErr done (StreamFailsBy known what knows of_output of_file old new made)
     → OnOk done ((status ≡ Done) × Quiet)
     → IfErr done (λ found. status ≡ failure_status found)
-    → IfErr done (λ found. IsTold (explained found what.explain) found before after)
+    → IfErr done (λ found. IsStreamTold (explained found what.explain) found before after)
     → StreamEndsBy known what knows of_output of_file status old new made before after
 stream_ends Quiet known what knows of_output of_file old new made (Ok unit) status before after does
     fails quiet is told =
@@ -87,7 +86,7 @@ pub table_ends : {A W : Type 0} (Quiet : Type 0) (explain : Explain) (known : Kn
     → OnOk done (TableDoes known name (contents old.inner) (contents new.inner))
     → IfErr done (TableFails known name contents old new) → OnOk done ((status ≡ Done) × Quiet)
     → IfErr done (λ found. status ≡ failure_status found)
-    → IfErr done (λ found. IsTold (explained found explain) found before after)
+    → IfErr done (λ found. IsStreamTold (explained found explain) found before after)
     → TableEnds explain known name status contents old new before after
 table_ends Quiet explain known name contents old new (Ok unit) status before after does fails quiet is
     told =
@@ -110,12 +109,21 @@ status_ends Quiet (Err found) status quiet is = subst MayEndAsStream (sym is) (f
 -- what the words ask for is there
 pub there_of : (known : Known) (what : Stream) (job now : Job) (graph : Graph) → now ≡ job
     → graph ≡ now.graph → IsGraphOf known what.graph job.graph → HasSinks job what.sink what.files
-    → AreNoSources what.beside what.graph graph what.files → IsAsAsked known what now
+    → AreNotRead what.beside what.graph graph what.files → IsAsAsked known what now
 there_of known what job now graph same is of_graph sinks apart = record {
   graph_of = subst (λ (j : Job). IsGraphOf known what.graph j.graph) (sym same) of_graph;
   sinks = subst (λ j. HasSinks j what.sink what.files) (sym same) sinks;
-  apart = subst (λ g. AreNoSources what.beside what.graph g what.files) is apart;
+  apart = subst (λ g. AreNotRead what.beside what.graph g what.files) is apart;
 }
+
+-- files were made only where it is
+pub made_last : {V : Type 0} (known : Known) (what : Stream) (job now : Job) (graph : Graph)
+    (made : List (Watched V)) → now ≡ job → graph ≡ now.graph → IsGraphOf known what.graph job.graph
+    → HasSinks job what.sink what.files
+    → (made ≡ []) ⊎ AreNotRead what.beside what.graph graph what.files → AreMadeLast known what made
+made_last known what job now graph made same is of_graph sinks (inl none) = inl none
+made_last known what job now graph made same is of_graph sinks (inr apart) =
+    inr (now, there_of known what job now graph same is of_graph sinks apart)
 
 pub begun_does : (known : Known) (what : Stream) (job : Job) (goes : ℕ → Option ℕ)
     (old now : ℕ → Option (List ℕ)) → IsAsAsked known what job

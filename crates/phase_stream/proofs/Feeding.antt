@@ -4,7 +4,7 @@ use Rattle.std.specs.Prelude.{drop}
 use Rattle.std.proofs.lemmas.Bool.{eq-eqb, eqb-true}
 use Rattle.graph_commands.specs.FileJobs.{Known}
 use Rattle.stream_job.specs.Streams.{StreamState, fed, has_ended}
-use Rattle.stream_job.specs.graph_base.Graphs.{file_at, sources_of}
+use Rattle.graph_base.specs.Graphs.{file_at, sources_of}
 use Rattle.phase_stream.specs.Sessions.{AreCome}
 use Rattle.phase_stream.specs.Sources.{HasComeOf, HasFront}
 

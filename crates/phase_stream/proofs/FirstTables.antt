@@ -4,13 +4,13 @@ use Rattle.std.specs.Io.KnownBytes.{Appends}
 use Rattle.graph_commands.specs.FileJobs.{IsGraphOf, Known}
 use Rattle.graph_commands.specs.declared.failure.Failure.{Failure}
 use Rattle.graph_commands.specs.declared.failure.Failure.TheVariants as failure
-use Rattle.graph_commands.specs.watched_io.Prefix.{AppendsPrefix}
-use Rattle.graph_commands.specs.watched_io.States.{WriterState}
+use Rattle.watched_io.specs.Prefix.{AppendsPrefix}
+use Rattle.watched_io.specs.States.{WriterState}
 use Rattle.stream_job.specs.Streams.{ended_at, has_ended}
-use Rattle.stream_job.specs.graph_base.Graphs.{Graph}
-use Rattle.stream_job.specs.graph_runs.Moments.{started}
-use Rattle.stream_job.specs.stream_lists.Jobs.{Job}
-use Rattle.stream_job.specs.stream_lists.Lists.{sinks_of}
+use Rattle.graph_base.specs.Graphs.{Graph}
+use Rattle.graph_runs.specs.Moments.{started}
+use Rattle.stream_lists.specs.Jobs.{Job}
+use Rattle.stream_lists.specs.Lists.{sinks_of}
 use Rattle.phase_stream.specs.Outputs.{IsUnreadGraph}
 use Rattle.phase_stream.specs.Sessions.{StandsFresh}
 use Rattle.phase_stream.specs.TableLines.{AreNewColumns, Shows, TableStands, by_number, names_line, table_text}

@@ -3,10 +3,10 @@ use Rattle.std.proofs.Common.{◌≡◌, ◌≢◌, ◌<◌, ◌+◌, ℕ, ℤ, 
 use Rattle.std.proofs.lemmas.Bool.{eq-eqb, eqb-true}
 use Rattle.stream_job.specs.SinkLines.{kept_by}
 use Rattle.stream_job.specs.Streams.{IsStreamAt, StreamState}
-use Rattle.stream_job.specs.graph_runs.Moments.{Moment}
-use Rattle.stream_job.specs.graph_runs.Turned.{with_at}
-use Rattle.stream_job.specs.stream_lists.Jobs.{Job}
-use Rattle.stream_job.specs.stream_lists.Lists.{sinks_of}
+use Rattle.graph_runs.specs.Moments.{Moment}
+use Rattle.graph_runs.specs.Turned.{with_at}
+use Rattle.stream_lists.specs.Jobs.{Job}
+use Rattle.stream_lists.specs.Lists.{sinks_of}
 use Rattle.phase_stream.specs.Sessions.{Forgets}
 
 pub forgets_none : (stream : StreamState) → Forgets 0 stream stream

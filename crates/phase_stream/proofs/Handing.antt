@@ -8,15 +8,15 @@ use Rattle.std.specs.Io.KnownBytes.{Appends}
 use mathlib.Core.List.{IsPrefix}
 use Rattle.graph_commands.specs.FileJobs.{Known}
 use Rattle.graph_commands.specs.OutputTexts.{value_text}
-use Rattle.graph_commands.specs.watched_io.Prefix.{AppendsPrefix}
-use Rattle.graph_commands.specs.watched_io.States.{WriterState}
+use Rattle.watched_io.specs.Prefix.{AppendsPrefix}
+use Rattle.watched_io.specs.States.{WriterState}
 use Rattle.stream_job.specs.SinkLines.{kept_by}
 use Rattle.stream_job.specs.Streams.{IsStreamAt, StreamState}
 use Rattle.stream_job.specs.declared.stopped.Stopped.{Stopped}
-use Rattle.stream_job.specs.graph_runs.Moments.{Moment}
-use Rattle.stream_job.specs.graph_runs.Turned.{with_at}
-use Rattle.stream_job.specs.stream_lists.Jobs.{Job}
-use Rattle.stream_job.specs.stream_lists.Lists.{sinks_of}
+use Rattle.graph_runs.specs.Moments.{Moment}
+use Rattle.graph_runs.specs.Turned.{with_at}
+use Rattle.stream_lists.specs.Jobs.{Job}
+use Rattle.stream_lists.specs.Lists.{sinks_of}
 use Rattle.phase_stream.specs.Sessions.{AllHanded, AreLeft, AreTargets, AreWritten, HandsOverAll, HandsPart, HasStopped, IsSameSession, Reaches, StandsBy, StandsPart, StandsStopped, WritesFirst, WritesLeft, WritesLeftPart, WritesSome, WritesTo, task_for, values_for}
 use Rattle.phase_stream.specs.declared.session.Session.{Session}
 use Rattle.phase_stream.specs.declared.sink.Sink.{Sink}

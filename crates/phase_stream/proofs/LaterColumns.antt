@@ -4,14 +4,14 @@ use Rattle.std.proofs.lemmas.List.FromFn.{get_or-map-range_with_len}
 use Rattle.std.specs.List.{range_with_len}
 use mathlib.Core.List.{IsPrefix}
 use Rattle.stream_job.specs.SinkLines.{sink_begins_at}
-use Rattle.stream_job.specs.graph_base.Graphs.{task_at}
-use Rattle.stream_job.specs.graph_base.TaskLines.{IsGraph}
-use Rattle.stream_job.specs.graph_runs.Feeds.{IsFed}
-use Rattle.stream_job.specs.graph_runs.InTime.{BeginsInTime}
-use Rattle.stream_job.specs.graph_runs.Moments.{Moment, started}
-use Rattle.stream_job.specs.graph_runs.Settled.{IsReady}
-use Rattle.stream_job.specs.stream_lists.Jobs.{Job, start_at, with_samples, with_starts}
-use Rattle.stream_job.specs.stream_lists.Spans.{span_in}
+use Rattle.graph_base.specs.Graphs.{task_at}
+use Rattle.graph_base.specs.TaskLines.{IsGraph}
+use Rattle.graph_runs.specs.Feeds.{IsFed}
+use Rattle.graph_runs.specs.InTime.{BeginsInTime}
+use Rattle.graph_runs.specs.Moments.{Moment, started}
+use Rattle.graph_runs.specs.Settled.{IsReady}
+use Rattle.stream_lists.specs.Jobs.{Job, start_at, with_samples, with_starts}
+use Rattle.stream_lists.specs.Spans.{span_in}
 use Rattle.phase_stream.specs.Columns.{ColumnBeginsAt, ColumnStands}
 use Rattle.phase_stream.specs.Sessions.{sink_list}
 use Rattle.phase_stream.specs.TableLines.{Shows, View}
@@ -98,6 +98,7 @@ stands_later job ended over s t m later g column step start list there goes stay
   late = stands.late;
   waits = stands.waits;
   far = stands.far;
+  counted = stands.counted;
   none = stands.none;
   all = stands.all;
   begins = λ more fed ready. begins more fed ready column.has_start refl;

@@ -2,14 +2,14 @@
 -- each other one there.
 use Rattle.std.proofs.Common.{◌≡◌, ◌<◌, ◌≤◌, ◌+◌, ◌*◌, ◌&&◌, ℕ, zero, suc, Bool, true, false, List, Option, Some, None, length, get_or, refl, sym, ap, subst, ◌∙◌, arith}
 use Rattle.std.specs.Prelude.{if◌then◌else◌, max, nat_le}
-use Rattle.stream_job.specs.graph_base.Graphs.{task_at}
-use Rattle.stream_job.specs.graph_base.TaskLines.{IsGraph, IsParent, IsTaskLine}
-use Rattle.stream_job.specs.graph_base.declared.line.Parent.{Parent}
-use Rattle.stream_job.specs.stream_lists.Jobs.{Job, samples_at, start_at}
-use Rattle.stream_job.specs.stream_lists.Spans.{lengths_of, nowhere, offset_of, span_at, span_in, spans_of}
-use Rattle.stream_job.specs.stream_lists.declared.span.Span.{Span}
-use Rattle.stream_job.proofs.graph_runs_lemmas.AtOpening.{opening_has_begun}
-use Rattle.stream_job.proofs.stream_lists_lemmas.SpansAbove.{parent-is, spans_all}
+use Rattle.graph_base.specs.Graphs.{task_at}
+use Rattle.graph_base.specs.TaskLines.{IsGraph, IsParent, IsTaskLine}
+use Rattle.graph_base.specs.declared.line.Parent.{Parent}
+use Rattle.stream_lists.specs.Jobs.{Job, samples_at, start_at}
+use Rattle.stream_lists.specs.Spans.{lengths_of, nowhere, offset_of, span_at, span_in, spans_of}
+use Rattle.stream_lists.specs.declared.span.Span.{Span}
+use Rattle.graph_runs.proofs.AtOpening.{opening_has_begun}
+use Rattle.stream_lists.proofs.SpansAbove.{parent-is, spans_all}
 use Rattle.phase_stream.specs.Columns.{least_start}
 
 -- of a task without a parent it is 0

@@ -1,3 +1,4 @@
+mod Absent
 mod Alone
 mod Asking
 mod Begun

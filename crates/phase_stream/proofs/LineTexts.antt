@@ -8,9 +8,9 @@ use Rattle.std.specs.List.{flat_map, fold, range_with_len}
 use mathlib.Core.List.{IsPrefix}
 use Rattle.graph_commands.specs.ColumnTexts.{SinkValues, cell, comma_before, end_at, end_from, row_text, rows_of, value_cell, value_from}
 use Rattle.graph_commands.proofs.Below.{range-parts, below-more}
-use Rattle.stream_job.specs.stream_lists.Jobs.{Job}
-use Rattle.stream_job.specs.stream_lists.Lists.{lines_of, numbers_of, sink_over, sinks_of}
-use Rattle.stream_job.specs.stream_lists.Spans.{schedule_of, span_in}
+use Rattle.stream_lists.specs.Jobs.{Job}
+use Rattle.stream_lists.specs.Lists.{lines_of, numbers_of, sink_over, sinks_of}
+use Rattle.stream_lists.specs.Spans.{schedule_of, span_in}
 use Rattle.phase_stream.specs.Sessions.{sink_list}
 use Rattle.phase_stream.specs.TableLines.{View, cells_at, line_of, names_line, table_text}
 use Rattle.phase_stream.specs.Tables.{table_of}

@@ -2,29 +2,31 @@
 use Rattle.std.proofs.Common.{◌≡◌, ◌⊎◌, ◌<◌, ◌≤◌, ◌+◌, ◌++◌, inl, inr, ℕ, zero, suc, Bool, true, false, List, [], ◌∷◌, Some, length, slice_get, refl, sym, ap, subst, ◌∙◌, arith}
 use Rattle.std.specs.Prelude.{◌||◌}
 use Rattle.std.specs.List.{list_any, range_with_len}
+use Rattle.std.specs.Str.{bytes_eq}
 use Rattle.std.proofs.lemmas.Bool.{cases_lt}
 use Rattle.std.proofs.lemmas.Option.{same_Some}
+use Rattle.std.proofs.lemmas.Slice.Eq.{bytes_eq-Decides}
 use Rattle.phase_words.specs.Outputs.{Pair}
-use Rattle.stream_job.specs.graph_base.Graphs.{Graph}
-use Rattle.phase_stream.specs.Outputs.{AreNoSources, is_source_file}
+use Rattle.graph_base.specs.Graphs.{Graph}
+use Rattle.phase_stream.specs.Outputs.{AreNotRead, is_read_file}
 
--- ---- apart from the files of sources
+-- ---- apart from what is read
 
--- none of the first n files is that of a source
+-- none of the first n files is read by the stream
 abbrev pub AreFirstApart : Bool → List ℕ → Graph → List Pair → ℕ → Type 0
 AreFirstApart is_beside name graph files n = (k : ℕ) (file : Pair) → k < n
-    → slice_get files k ≡ Some file → is_source_file is_beside name graph file.1 ≡ false
+    → slice_get files k ≡ Some file → is_read_file is_beside name graph file.1 ≡ false
 
 pub apart_more : (is_beside : Bool) (name : List ℕ) (graph : Graph) (files : List Pair) (n : ℕ)
     (one : Pair) → AreFirstApart is_beside name graph files n → slice_get files n ≡ Some one
-    → is_source_file is_beside name graph one.1 ≡ false
+    → is_read_file is_beside name graph one.1 ≡ false
     → AreFirstApart is_beside name graph files (n + 1)
 apart_more is_beside name graph files n one before here none k file lt there = elim (cases_lt k n) [
   | inl less ↦ before k file less there
   | inr past ↦
       (let same : n ≡ k = omega (arith, lt, past) in
       let is : one ≡ file = same_Some one file (sym here ∙ (ap (slice_get files) same ∙ there)) in
-      subst (λ (f : Pair). is_source_file is_beside name graph f.1 ≡ false) is none)
+      subst (λ (f : Pair). is_read_file is_beside name graph f.1 ≡ false) is none)
 ]
 
 got_within : (files : List Pair) (k : ℕ) (file : Pair) → slice_get files k ≡ Some file
@@ -36,10 +38,26 @@ got_within (x ∷ xs) (suc k) file e =
 
 pub apart_all : (is_beside : Bool) (name : List ℕ) (graph : Graph) (files : List Pair) (n : ℕ)
     → length files ≤ n → AreFirstApart is_beside name graph files n
-    → AreNoSources is_beside name graph files
+    → AreNotRead is_beside name graph files
 apart_all is_beside name graph files n all first k file there =
     let within = got_within files k file there in
     first k file (omega (arith, within, all)) there
+
+-- ---- names
+
+-- two names are apart where a look that finds the same name tells that they are not one
+pub apart_named : (is : Bool) (xs ys : List ℕ) → (xs ≡ ys → is ≡ true) → is ≡ false
+    → bytes_eq xs ys ≡ false
+apart_named is xs ys named none = by (bytes_eq xs ys) refl
+  where
+    by : (b : Bool) → bytes_eq xs ys ≡ b → bytes_eq xs ys ≡ false
+    by false e = e
+    by true e =
+        absurd (let bad : true ≡ false = sym (named ((bytes_eq-Decides xs ys).0 e)) ∙ none in cc)
+
+pub neither : (a b : Bool) → a ≡ false → b ≡ false → (a || b) ≡ false
+neither false b e f = f
+neither true b e f = absurd (cc)
 
 -- ---- the files of sources
 

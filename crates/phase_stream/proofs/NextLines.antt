@@ -10,11 +10,11 @@ use Rattle.std.specs.Io.KnownBytes.{Appends}
 use Rattle.std.specs.List.{list_all, list_any, range_with_len}
 use mathlib.Core.List.{IsPrefix}
 use Rattle.graph_commands.specs.ColumnTexts.{end_from, value_from}
-use Rattle.graph_commands.specs.watched_io.Prefix.{AppendsPrefix}
-use Rattle.stream_job.specs.graph_runs.InTime.{BeginsInTime}
-use Rattle.stream_job.specs.graph_runs.Moments.{Moment, started}
-use Rattle.stream_job.specs.stream_lists.Jobs.{Job, with_samples}
-use Rattle.stream_job.specs.stream_lists.Lists.{sinks_of}
+use Rattle.watched_io.specs.Prefix.{AppendsPrefix}
+use Rattle.graph_runs.specs.InTime.{BeginsInTime}
+use Rattle.graph_runs.specs.Moments.{Moment, started}
+use Rattle.stream_lists.specs.Jobs.{Job, with_samples}
+use Rattle.stream_lists.specs.Lists.{sinks_of}
 use Rattle.phase_stream.specs.Columns.{ColumnBeginsAt, ColumnStands, HasPassedLine, IsSameSink, has_value, is_known, least_start, next_cell}
 use Rattle.phase_stream.specs.Sessions.{sink_list}
 use Rattle.phase_stream.specs.TableLines.{EachGoes, HasLast, Shows, ShowsMore, View, cells_at, has_line, line_of, next_line, table_text}
@@ -90,6 +90,7 @@ passes_on job ended s m g old new step start list stands known passed = record {
   late = (let was = stands.late in passed.late ∙ omega (arith, was));
   waits = passed.values ∙ waits (nat_lt 0 old.late) refl;
   far = λ stays. far (passed_left stays);
+  counted = passed.count ∙ stands.counted;
   none = λ unknown. stands.none (sym passed.same.has_start ∙ unknown);
   all = λ stays. stands.all (passed_left stays);
   begins = λ more fed ready.

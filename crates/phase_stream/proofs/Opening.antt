@@ -5,11 +5,11 @@ use Rattle.std.proofs.lemmas.List.{length_push}
 use Rattle.std.proofs.lemmas.List.Sums.{count_by_more_yes, count_by_more_no}
 use Rattle.graph_commands.specs.FileJobs.{Known}
 use Rattle.stream_job.specs.Streams.{IsSourceAt}
-use Rattle.stream_job.specs.graph_base.Graphs.{is_source, no_task, source_number, task_at}
-use Rattle.stream_job.specs.graph_base.declared.Kind.{Kind}
-use Rattle.stream_job.specs.graph_base.declared.Kind.TheVariants.{Decimate, Fir, Join, Peer, Sink, Source as SourceKind, Split}
-use Rattle.stream_job.specs.stream_lists.Jobs.{Job}
-use Rattle.stream_job.proofs.stream_lists_lemmas.Basics.{push_found}
+use Rattle.graph_base.specs.Graphs.{is_source, no_task, source_number, task_at}
+use Rattle.graph_base.specs.declared.Kind.{Kind}
+use Rattle.graph_base.specs.declared.Kind.TheVariants.{Decimate, Fir, Join, Peer, Sink, Source as SourceKind, Split}
+use Rattle.stream_lists.specs.Jobs.{Job}
+use Rattle.stream_lists.proofs.Basics.{push_found}
 use Rattle.phase_stream.specs.Sources.{AreUnopened, IsSource}
 use Rattle.phase_stream.specs.declared.source.Source.{Source}
 

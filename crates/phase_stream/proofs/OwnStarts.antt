@@ -3,19 +3,19 @@
 use Rattle.std.proofs.Common.{◌≡◌, ◌<◌, ◌≤◌, ◌++◌, ◌&&◌, ℕ, ℤ, List, [], ◌∷◌, Option, Some, None, length, get_or, map, refl, sym, ap, subst, ◌∙◌, arith}
 use Rattle.std.specs.Prelude.{if◌then◌else◌}
 use Rattle.std.specs.List.{range_with_len}
-use Rattle.stream_job.specs.graph_base.Graphs.{phaser_at, task_at}
-use Rattle.stream_job.specs.graph_base.TaskLines.{IsGraph, IsParent, IsTaskLine}
-use Rattle.stream_job.specs.graph_base.declared.line.Parent.{Parent}
-use Rattle.stream_job.specs.graph_runs.InTime.{BeginsInTime}
-use Rattle.stream_job.specs.graph_runs.Moments.{input_at}
-use Rattle.stream_job.specs.stream_lists.Jobs.{Job, index_in, samples_at, start_at, with_starts}
-use Rattle.stream_job.specs.stream_lists.Lists.{contribution_at, contribution_by, contributions_on, list_over, number, numbers_of, output_list, phase_in, taken_by, taken_from, value_by}
-use Rattle.stream_job.specs.stream_lists.Spans.{lengths_of, nowhere, offset_of, schedule_of, signalled_by, span_at, span_in, spans_of}
-use Rattle.stream_job.specs.stream_lists.declared.span.Span.{Span}
-use Rattle.stream_job.proofs.stream_lists_lemmas.EachPhase.{signaller_stays}
-use Rattle.stream_job.proofs.stream_lists_lemmas.Growing.{filter_map-same}
-use Rattle.stream_job.proofs.stream_lists_lemmas.SpansAbove.{parent-is, same_offset, spans_all}
-use Rattle.stream_job.proofs.stream_lists_lemmas.Starts.{fold-same, lengths_stay, others_stay}
+use Rattle.graph_base.specs.Graphs.{phaser_at, task_at}
+use Rattle.graph_base.specs.TaskLines.{IsGraph, IsParent, IsTaskLine}
+use Rattle.graph_base.specs.declared.line.Parent.{Parent}
+use Rattle.graph_runs.specs.InTime.{BeginsInTime}
+use Rattle.graph_runs.specs.Moments.{input_at}
+use Rattle.stream_lists.specs.Jobs.{Job, index_in, samples_at, start_at, with_starts}
+use Rattle.stream_lists.specs.Lists.{contribution_at, contribution_by, contributions_on, list_over, number, numbers_of, output_list, phase_in, taken_by, taken_from, value_by}
+use Rattle.stream_lists.specs.Spans.{lengths_of, nowhere, offset_of, schedule_of, signalled_by, span_at, span_in, spans_of}
+use Rattle.stream_lists.specs.declared.span.Span.{Span}
+use Rattle.stream_lists.proofs.EachPhase.{signaller_stays}
+use Rattle.stream_lists.proofs.Growing.{filter_map-same}
+use Rattle.stream_lists.proofs.SpansAbove.{parent-is, same_offset, spans_all}
+use Rattle.stream_lists.proofs.Starts.{fold-same, lengths_stay, others_stay}
 use Rattle.phase_stream.specs.Sessions.{sink_list}
 
 -- ---- the values of the phasers

@@ -5,13 +5,13 @@ use Rattle.std.proofs.lemmas.List.{append_assoc, length-take-le}
 use Rattle.std.specs.Prelude.{IfSome}
 use Rattle.std.specs.Io.KnownBytes.{Consumes, IsAtEnd, Keeps}
 use mathlib.Core.List.{IsPrefix}
-use Rattle.graph_commands.specs.watched_io.Files.{HasBytes}
-use Rattle.graph_commands.specs.watched_io.Watched.{inner_of}
+use Rattle.watched_io.specs.Files.{HasBytes}
+use Rattle.watched_io.specs.Watched.{inner_of}
 use Rattle.sample_pieces.specs.Pieces.{HasRead, IsBadFrom, TakesPiece}
 use Rattle.sample_pieces.specs.declared.reader.SampleReader.{SampleReader}
-use Rattle.sample_pieces.specs.graph_lang.Samples.{AreRecordsOfValues, IsBadSample}
-use Rattle.stream_job.specs.phase_accum.Sends.{AreSends}
-use Rattle.stream_job.proofs.stream_lists_lemmas.phase_accum_lemmas.Parts.{AreSends-append_right}
+use Rattle.graph_lang.specs.Samples.{AreRecordsOfValues, IsBadSample}
+use Rattle.phase_accum.specs.Sends.{AreSends}
+use Rattle.phase_accum.proofs.Parts.{AreSends-append_right}
 use Rattle.phase_stream.specs.Sources.{BeginsSo, PieceGives, HasBadFrom, HasComeOf, HasFront, IsBehind, IsFront, IsKeptOf, IsOpenFile, IsTextOfFile}
 use Rattle.phase_stream.specs.declared.record_text.RecordText.{RecordText}
 use Rattle.phase_stream.specs.declared.source.OpenFile.{OpenFile}

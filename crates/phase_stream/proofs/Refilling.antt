@@ -2,15 +2,15 @@
 use Rattle.std.proofs.Common.{◌≡◌, ◌≢◌, ◌⊎◌, inl, inr, ◌<◌, ◌≤◌, ◌++◌, ℕ, ℤ, Bool, true, false, eqb, List, [], ◌∷◌, Option, Some, length, get_or, set, slice_get, take, zero, suc, refl, sym, ap, subst, ◌∙◌, append-nil, arith, rules}
 use mathlib.Core.List.{IsPrefix}
 use Rattle.std.specs.Prelude.{◌||◌, is_some, nat_lt}
-use Rattle.stream_job.specs.stream_lists.Jobs.{Job, with_samples}
+use Rattle.stream_lists.specs.Jobs.{Job, with_samples}
 use Rattle.std.proofs.lemmas.Bool.{eq-eqb, eqb-true, ltb-false, ltb-true}
 use Rattle.std.proofs.lemmas.List.{length-take-le}
 use Rattle.graph_commands.specs.FileJobs.{Known}
 use Rattle.stream_job.specs.Streams.{FeedTakes, IsSameBut, IsSourceAt, IsStreamAt, StreamState, ended_at, ended_with, fed, has_ended}
 use Rattle.stream_job.specs.declared.stopped.Stopped.TheVariants.{Hungry}
-use Rattle.stream_job.specs.graph_base.Graphs.{Graph, file_at, source_number, sources_of}
-use Rattle.stream_job.specs.graph_runs.Feeds.{IsFed}
-use Rattle.stream_job.specs.graph_runs.Moments.{Moment}
+use Rattle.graph_base.specs.Graphs.{Graph, file_at, source_number, sources_of}
+use Rattle.graph_runs.specs.Feeds.{IsFed}
+use Rattle.graph_runs.specs.Moments.{Moment}
 use Rattle.phase_stream.specs.Sessions.{AreCome, AreSources, AreWritten, IsKnownAs, KeptStill, Reaches, StandsBy, StandsFurther, StandsLacking, StandsStopped}
 use Rattle.phase_stream.specs.Sources.{GivesSource, HasComeOf, IsSource, Lacks}
 use Rattle.phase_stream.specs.declared.source.Lack.{Lack}

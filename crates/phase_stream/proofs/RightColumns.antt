@@ -9,21 +9,21 @@ use mathlib.Core.List.{IsPrefix}
 use Rattle.graph_commands.specs.ColumnTexts.{end_from, value_from}
 use Rattle.stream_job.specs.SinkLines.{sink_begins_at}
 use Rattle.stream_job.specs.Streams.{IsStreamAt, StreamState, ended_at}
-use Rattle.stream_job.specs.graph_base.Graphs.{task_at}
-use Rattle.stream_job.specs.graph_base.TaskLines.{IsGraph}
-use Rattle.stream_job.specs.graph_runs.Feeds.{IsFed}
-use Rattle.stream_job.specs.graph_runs.Moments.{HasRun, Moment, input_at, started}
-use Rattle.stream_job.specs.graph_runs.Settled.{IsReady, Stands}
-use Rattle.stream_job.specs.stream_lists.Jobs.{Job, samples_at, start_at, with_samples}
-use Rattle.stream_job.specs.stream_lists.Lists.{is_sink_at, numbers_of}
-use Rattle.stream_job.specs.stream_lists.Spans.{lengths_of, nowhere, offset_of, span_at, span_in, spans_of, takes_from}
-use Rattle.stream_job.specs.stream_lists.declared.span.Span.{Span}
-use Rattle.stream_job.proofs.graph_runs_lemmas.FedFeeds.{feed_continues}
-use Rattle.stream_job.proofs.graph_runs_lemmas.FedRuns.{run_fed}
-use Rattle.stream_job.proofs.graph_runs_lemmas.Started.{ready_as, run_started}
-use Rattle.stream_job.proofs.graph_runs_lemmas.Whole.{stands_all}
-use Rattle.stream_job.proofs.stream_lists_lemmas.SpansAbove.{spans_all}
-use Rattle.stream_job.proofs.stream_lists_lemmas.Basics.{sink_kind}
+use Rattle.graph_base.specs.Graphs.{task_at}
+use Rattle.graph_base.specs.TaskLines.{IsGraph}
+use Rattle.graph_runs.specs.Feeds.{IsFed}
+use Rattle.graph_runs.specs.Moments.{HasRun, Moment, input_at, started}
+use Rattle.graph_runs.specs.Settled.{IsReady, Stands}
+use Rattle.stream_lists.specs.Jobs.{Job, samples_at, start_at, with_samples}
+use Rattle.stream_lists.specs.Lists.{is_sink_at, numbers_of}
+use Rattle.stream_lists.specs.Spans.{lengths_of, nowhere, offset_of, span_at, span_in, spans_of, takes_from}
+use Rattle.stream_lists.specs.declared.span.Span.{Span}
+use Rattle.graph_runs.proofs.FedFeeds.{feed_continues}
+use Rattle.graph_runs.proofs.FedRuns.{run_fed}
+use Rattle.graph_runs.proofs.Started.{ready_as, run_started}
+use Rattle.graph_runs.proofs.Whole.{stands_all}
+use Rattle.stream_lists.proofs.SpansAbove.{spans_all}
+use Rattle.stream_lists.proofs.Basics.{sink_kind}
 use Rattle.phase_stream.specs.Columns.{ColumnBeginsAt, ColumnStands, least_start}
 use Rattle.phase_stream.specs.Sessions.{sink_list}
 use Rattle.phase_stream.specs.declared.column.Column.{Column}
@@ -68,7 +68,7 @@ end_more start (x ∷ xs) whole begins =
     subst (λ l. end_from start (x ∷ xs) ≤ end_from start l) begins.1
     (let long = length-append xs begins.0 in omega arith)
 
-none_before : (list : List ℤ) → IsPrefix list [] → list ≡ []
+pub none_before : (list : List ℤ) → IsPrefix list [] → list ≡ []
 none_before [] begins = refl
 none_before (x ∷ xs) begins = absurd (let wrong : x ∷ (xs ++ begins.0) ≡ [] = begins.1 in cc)
 

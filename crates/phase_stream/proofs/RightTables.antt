@@ -9,12 +9,12 @@ use Rattle.std.specs.List.{list_all, list_any}
 use mathlib.Core.List.{IsPrefix}
 use Rattle.graph_commands.specs.ColumnTexts.{end_from, rows_of, value_from}
 use Rattle.stream_job.specs.Streams.{IsStreamAt, StreamState, ended_at}
-use Rattle.stream_job.specs.graph_runs.Feeds.{IsFed}
-use Rattle.stream_job.specs.graph_runs.Moments.{Moment, started}
-use Rattle.stream_job.specs.graph_runs.Settled.{IsReady}
-use Rattle.stream_job.specs.stream_lists.Jobs.{Job, with_samples}
-use Rattle.stream_job.specs.stream_lists.Lists.{is_sink_at, lines_of, sinks_of}
-use Rattle.stream_job.specs.stream_lists.Spans.{span_in}
+use Rattle.graph_runs.specs.Feeds.{IsFed}
+use Rattle.graph_runs.specs.Moments.{Moment, started}
+use Rattle.graph_runs.specs.Settled.{IsReady}
+use Rattle.stream_lists.specs.Jobs.{Job, with_samples}
+use Rattle.stream_lists.specs.Lists.{is_sink_at, lines_of, sinks_of}
+use Rattle.stream_lists.specs.Spans.{span_in}
 use Rattle.stream_job.proofs.GivenLines.{sink_there}
 use Rattle.phase_stream.specs.Columns.{has_value, is_known}
 use Rattle.phase_stream.specs.Sessions.{sink_list}

@@ -6,9 +6,9 @@ use Rattle.std.proofs.lemmas.List.Elements.{filter-append}
 use Rattle.std.proofs.lemmas.List.FromFn.{length-range_with_len}
 use Rattle.std.proofs.lemmas.List.Sums.{count_by-le-length, length-filter}
 use Rattle.std.proofs.lemmas.Option.{get_or_from_slice_get, slice_get_within}
-use Rattle.stream_job.specs.stream_lists.Jobs.{Job}
-use Rattle.stream_job.specs.stream_lists.Lists.{is_sink_at, sinks_of}
-use Rattle.stream_job.proofs.stream_lists_lemmas.Basics.{passes-at}
+use Rattle.stream_lists.specs.Jobs.{Job}
+use Rattle.stream_lists.specs.Lists.{is_sink_at, sinks_of}
+use Rattle.stream_lists.proofs.Basics.{passes-at}
 use Rattle.phase_stream.specs.Sessions.{IsSinkNumber}
 use Rattle.phase_stream.specs.declared.sink.Sink.{Sink}
 

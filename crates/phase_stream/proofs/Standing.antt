@@ -13,15 +13,15 @@ use Rattle.stream_job.specs.Streams.{IsSourceAt, IsStreamAt, Meets, StreamState,
 use Rattle.stream_job.specs.declared.input.Input.{Input}
 use Rattle.stream_job.specs.declared.stopped.Stopped.{Stopped}
 use Rattle.stream_job.specs.declared.stopped.Stopped.TheVariants as stopped
-use Rattle.stream_job.specs.graph_base.Graphs.{file_at, sources_of}
-use Rattle.stream_job.specs.graph_base.declared.place.Place.{Place}
-use Rattle.stream_job.specs.graph_runs.Feeds.{IsFed}
-use Rattle.stream_job.specs.graph_runs.InTime.{BeginsInTime}
-use Rattle.stream_job.specs.graph_runs.Moments.{Moment, started}
-use Rattle.stream_job.specs.graph_runs.Settled.{IsFaultAt, IsReady}
-use Rattle.stream_job.specs.stream_lists.Jobs.{Job, with_samples}
-use Rattle.stream_job.specs.stream_lists.Lists.{sinks_of}
-use Rattle.stream_job.specs.stream_lists.Ranges.{Where, answer_of}
+use Rattle.graph_base.specs.Graphs.{file_at, sources_of}
+use Rattle.graph_base.specs.declared.place.Place.{Place}
+use Rattle.graph_runs.specs.Feeds.{IsFed}
+use Rattle.graph_runs.specs.InTime.{BeginsInTime}
+use Rattle.graph_runs.specs.Moments.{Moment, started}
+use Rattle.graph_runs.specs.Settled.{IsFaultAt, IsReady}
+use Rattle.stream_lists.specs.Jobs.{Job, with_samples}
+use Rattle.stream_lists.specs.Lists.{sinks_of}
+use Rattle.stream_lists.specs.Ranges.{Where, answer_of}
 use Rattle.phase_stream.specs.Sessions.{AllWait, AreCome, AreSources, HasStopped, IsSameSession, StandsBefore, waits_now}
 use Rattle.phase_stream.specs.Sources.{HasComeOf, IsSource}
 use Rattle.phase_stream.specs.declared.session.Session.{Session}

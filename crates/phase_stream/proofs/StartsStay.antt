@@ -6,19 +6,19 @@ use Rattle.std.specs.List.{All}
 use Rattle.std.specs.Option.{option_map}
 use Rattle.stream_job.specs.SinkLines.{sink_begins_at}
 use Rattle.stream_job.specs.Streams.{MayTurn, SizedTurn, after_sized}
-use Rattle.stream_job.specs.graph_base.Graphs.{task_at}
-use Rattle.stream_job.specs.graph_base.TaskLines.{IsGraph}
-use Rattle.stream_job.specs.graph_runs.Answers.{Answer, after_answer, is_blocked, is_gone, has_made, is_refused, makes, turn_up_to}
-use Rattle.stream_job.specs.graph_runs.Moments.{Moment, OnLine, input_at}
-use Rattle.stream_job.specs.graph_runs.NextBlocks.{MaySize}
-use Rattle.stream_job.specs.graph_runs.Reached.{IsReachable}
-use Rattle.stream_job.specs.graph_runs.TaskEvents.{IsNext, TaskEvent, after_turn, child, child_now, exchange_wait, first_wait, leave, sample, signal}
-use Rattle.stream_job.specs.graph_runs.Turned.{with_at}
-use Rattle.stream_job.specs.stream_lists.Jobs.{Job}
-use Rattle.stream_job.specs.stream_lists.Spans.{signalled_by}
-use Rattle.stream_job.proofs.graph_runs_lemmas.JoinsNow.{sink_line, no_place}
-use Rattle.stream_job.proofs.graph_runs_lemmas.SizedTurns.{turn_reached}
-use Rattle.stream_job.proofs.graph_runs_lemmas.Turning.{turn_makes_next}
+use Rattle.graph_base.specs.Graphs.{task_at}
+use Rattle.graph_base.specs.TaskLines.{IsGraph}
+use Rattle.graph_runs.specs.Answers.{Answer, after_answer, is_blocked, is_gone, has_made, is_refused, makes, turn_up_to}
+use Rattle.graph_runs.specs.Moments.{Moment, OnLine, input_at}
+use Rattle.graph_runs.specs.NextBlocks.{MaySize}
+use Rattle.graph_runs.specs.Reached.{IsReachable}
+use Rattle.graph_runs.specs.TaskEvents.{IsNext, TaskEvent, after_turn, child, child_now, exchange_wait, first_wait, leave, sample, signal}
+use Rattle.graph_runs.specs.Turned.{with_at}
+use Rattle.stream_lists.specs.Jobs.{Job}
+use Rattle.stream_lists.specs.Spans.{signalled_by}
+use Rattle.graph_runs.proofs.JoinsNow.{sink_line, no_place}
+use Rattle.graph_runs.proofs.SizedTurns.{turn_reached}
+use Rattle.graph_runs.proofs.Turning.{turn_makes_next}
 
 -- ---- an event
 

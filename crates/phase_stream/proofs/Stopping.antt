@@ -4,19 +4,19 @@ use Rattle.std.specs.Prelude.{⊤}
 use Rattle.graph_commands.specs.FileJobs.{Known}
 use Rattle.graph_commands.specs.declared.failure.Failure.{Failure}
 use Rattle.graph_commands.specs.declared.failure.Failure.TheVariants as failure
-use Rattle.graph_commands.specs.watched_io.States.{WriterState}
+use Rattle.watched_io.specs.States.{WriterState}
 use Rattle.stream_job.specs.Gone.{has_gone}
 use Rattle.stream_job.specs.Streams.{IsStreamAt, ended_at}
 use Rattle.stream_job.specs.declared.stopped.Stopped.{Stopped}
 use Rattle.stream_job.specs.declared.stopped.Stopped.TheVariants as stopped
-use Rattle.stream_job.specs.graph_base.Graphs.{IsPlace}
-use Rattle.stream_job.specs.graph_base.declared.place.Place.{Place}
-use Rattle.stream_job.specs.graph_base.declared.place.Place.TheVariants as place
-use Rattle.stream_job.specs.graph_runs.Feeds.{IsFed}
-use Rattle.stream_job.specs.graph_runs.Moments.{Moment, started}
-use Rattle.stream_job.specs.graph_runs.Settled.{IsFaultAt, IsPlaceThere}
-use Rattle.stream_job.specs.stream_lists.Jobs.{Job, samples_in, with_samples}
-use Rattle.stream_job.specs.stream_lists.Ranges.{Where}
+use Rattle.graph_base.specs.Graphs.{IsPlace}
+use Rattle.graph_base.specs.declared.place.Place.{Place}
+use Rattle.graph_base.specs.declared.place.Place.TheVariants as place
+use Rattle.graph_runs.specs.Feeds.{IsFed}
+use Rattle.graph_runs.specs.Moments.{Moment, started}
+use Rattle.graph_runs.specs.Settled.{IsFaultAt, IsPlaceThere}
+use Rattle.stream_lists.specs.Jobs.{Job, samples_in, with_samples}
+use Rattle.stream_lists.specs.Ranges.{Where}
 use Rattle.phase_stream.specs.Outputs.{StopBehind, StopKept, StopOf, WriteKept, WriteWhole}
 use Rattle.phase_stream.specs.Sessions.{AreKeptRight, AreTargets, HasFailed, IsKnownAs, IsKeptWhole, IsSameSession, StandsPart, StandsStopped, task_for}
 use Rattle.phase_stream.specs.Streams.{IsStandstill}

@@ -5,14 +5,14 @@ use Rattle.graph_commands.specs.FileJobs.{Known}
 use Rattle.graph_commands.specs.declared.failure.Failure.{Failure}
 use Rattle.graph_commands.specs.declared.failure.Failure.TheVariants as failure
 use Rattle.graph_commands.specs.declared.fault.JobFault.TheVariants as fault
-use Rattle.graph_commands.specs.watched_io.States.{WriterState}
-use Rattle.graph_commands.specs.watched_io.declared.fault.IoFault.{IoFault}
-use Rattle.graph_commands.specs.watched_io.declared.fault.IoFault.TheVariants as io_fault
+use Rattle.watched_io.specs.States.{WriterState}
+use Rattle.watched_io.specs.declared.fault.IoFault.{IoFault}
+use Rattle.watched_io.specs.declared.fault.IoFault.TheVariants as io_fault
 use Rattle.stream_job.specs.Streams.{StreamState, ended_at}
 use Rattle.stream_job.specs.declared.stopped.Stopped.{Stopped}
-use Rattle.stream_job.specs.graph_runs.Feeds.{IsFed}
-use Rattle.stream_job.specs.stream_lists.Jobs.{Job, samples_in, with_samples}
-use Rattle.stream_job.proofs.graph_runs_lemmas.phase_history_lemmas.Streams.{IsPrefix-trans}
+use Rattle.graph_runs.specs.Feeds.{IsFed}
+use Rattle.stream_lists.specs.Jobs.{Job, samples_in, with_samples}
+use Rattle.phase_history.proofs.Streams.{IsPrefix-trans}
 use Rattle.phase_stream.specs.Outputs.{StopOf}
 use Rattle.phase_stream.specs.Sessions.{AreKeptRight, AreSources, AreTargets, Reaches, StandsBy, StandsFurther, StandsStopped, task_for}
 use Rattle.phase_stream.specs.TableLines.{Shows, TableStands, TableStopped, by_number, goes_on, have_left, table_text}

@@ -6,11 +6,11 @@ use mathlib.Core.List.{IsPrefix}
 use Rattle.graph_commands.specs.ColumnTexts.{end_from}
 use Rattle.stream_job.specs.SinkLines.{kept_by, kept_on, sink_begins_at}
 use Rattle.stream_job.specs.Streams.{IsStreamAt, StreamState, ended_at}
-use Rattle.stream_job.specs.graph_base.Graphs.{task_at}
-use Rattle.stream_job.specs.graph_runs.InTime.{BeginsInTime}
-use Rattle.stream_job.specs.graph_runs.Moments.{Moment, input_at, started}
-use Rattle.stream_job.specs.graph_runs.Settled.{IsReady}
-use Rattle.stream_job.specs.stream_lists.Jobs.{Job, with_samples}
+use Rattle.graph_base.specs.Graphs.{task_at}
+use Rattle.graph_runs.specs.InTime.{BeginsInTime}
+use Rattle.graph_runs.specs.Moments.{Moment, input_at, started}
+use Rattle.graph_runs.specs.Settled.{IsReady}
+use Rattle.stream_lists.specs.Jobs.{Job, with_samples}
 use Rattle.phase_stream.specs.Columns.{ColumnBeginsAt, ColumnStands, InRuns, TakesOver, least_start, started_column}
 use Rattle.phase_stream.specs.Sessions.{sink_list}
 use Rattle.phase_stream.specs.declared.column.Column.{Column}
@@ -30,6 +30,7 @@ left_over stream s m g column step start list left stands = record {
     late = stands.late;
     waits = stands.waits;
     far = stands.far;
+    counted = stands.counted;
     none = stands.none;
     all = λ stays. absurd (let wrong : false ≡ true = sym stays ∙ left in cc);
     begins = stands.begins;
@@ -48,6 +49,7 @@ pub record HasMore (stream : StreamState) (s : List (List ℤ)) (m : Moment) (gi
   pub task : new.task ≡ old.task
   pub least : new.least ≡ old.least
   pub items : new.values.items ≡ old.values.items ++ values
+  pub counted : new.count ≡ min 18446744073709551615 (old.count + length values)
   pub kept : given ++ values ≡ kept_by stream.job m old.task
   pub right : InRuns stream.job (ended_at stream) s m (λ job. IsPrefix (given ++ values) (sink_list job old.task))
   pub whole : new.has_left ≡ true → InRuns stream.job (ended_at stream) s m (λ job.
@@ -60,6 +62,16 @@ all_are : (stream : StreamState) (s : List (List ℤ)) (m : Moment) (given : Lis
 all_are stream s m given old new values step start list more stands =
     ap (λ l. l ++ values) (stands.all more.stays) ∙ more.kept
     ∙ ap (kept_by stream.job m) (sym more.task)
+
+count_now : (stream : StreamState) (s : List (List ℤ)) (m : Moment) (given : List ℤ)
+    (old new : Column) (values : List ℤ) (step start : ℕ) (list : List ℤ)
+    → HasMore stream s m given old new values → ColumnStands stream.job (ended_at stream) s m given old step start list
+    → new.count ≡ min 18446744073709551615 (length (list ++ values))
+count_now stream s m given old new values step start list more stands =
+    let counted = more.counted in
+    let before = stands.counted in
+    let long = length-append list values in
+    omega (arith, counted, before, long)
 
 -- the facts that do not look at its start
 begins_now : (stream : StreamState) (s : List (List ℤ)) (m : Moment) (given : List ℤ)
@@ -105,6 +117,7 @@ stays_over stream s m given old new values step start list more stands late has 
         waits = more.items ∙ ap (λ l. l ++ values) stands.waits
             ∙ sym (drop-append-le (step - start) list values (omega (arith, far)));
         far = λ stays. omega (arith, far, long);
+        counted = count_now stream s m given old new values step start list more stands;
         none = λ unknown.
             all_are stream s m given old new values step start list more stands
             ∙ ap (kept_by stream.job m) more.task ∙ bare (sym has ∙ unknown);
@@ -167,6 +180,7 @@ found_over stream s m given old new values step start found list at there more s
         waits = more.items ∙ ap (λ l. l ++ values) empty
             ∙ sym (ap (λ n. drop n (list ++ values)) none_yet ∙ ap (λ l. l ++ values) bare);
         far = λ stays. omega (arith, early_in);
+        counted = count_now stream s m (given old.task) old new values step start list more stands;
         none = λ no. absurd (let wrong : true ≡ false = sym has ∙ no in cc);
         all = λ stays. all_are stream s m (given old.task) old new values step start list more stands;
         begins = begins_now stream s m (given old.task) old new values step start list more stands;
@@ -196,6 +210,11 @@ found_over stream s m given old new values step start found list at there more s
 -- ---- both
 
 -- with a start it is the same sink, of which the same waits
+pub with_count : (found : Option ℕ) (column : Column)
+    → (started_column found column).count ≡ column.count
+with_count None column = refl
+with_count (Some start) column = refl
+
 pub with_task : (found : Option ℕ) (column : Column) → (started_column found column).task ≡ column.task
 with_task None column = refl
 with_task (Some start) column = refl
@@ -213,16 +232,18 @@ with_items (Some start) column = refl
 pub has_more : (stream : StreamState) (s : List (List ℤ)) (m : Moment) (given : ℕ → List ℤ)
     (old new : Column) (values : List ℤ) (t : ℕ) → old.has_left ≡ false → t ≡ old.task
     → new.task ≡ old.task → new.least ≡ old.least → new.values.items ≡ old.values.items ++ values
+    → new.count ≡ min 18446744073709551615 (old.count + length values)
     → given t ++ values ≡ kept_by stream.job m t
     → InRuns stream.job (ended_at stream) s m (λ job. IsPrefix (given t ++ values) (sink_list job t))
     → (new.has_left ≡ true → InRuns stream.job (ended_at stream) s m (λ job.
     (kept_by stream.job m t ≡ sink_list job t) × BeginsInTime job t))
     → HasMore stream s m (given old.task) old new values
-has_more stream s m given old new values t stays same task least items kept right whole = record {
+has_more stream s m given old new values t stays same task least items counted kept right whole = record {
   stays = stays;
   task = task;
   least = least;
   items = items;
+  counted = counted;
   kept = subst (λ u. given u ++ values ≡ kept_by stream.job m u) same kept;
   right = subst (λ u. InRuns stream.job (ended_at stream) s m
       (λ job. IsPrefix (given u ++ values) (sink_list job u))) same right;

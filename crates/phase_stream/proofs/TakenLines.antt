@@ -6,13 +6,13 @@ use Rattle.std.proofs.lemmas.Option.{same_Some}
 use Rattle.std.specs.Prelude.{drop, if◌then◌else◌, nat_lt, slice_get}
 use Rattle.graph_commands.specs.ColumnTexts.{end_from, value_from}
 use Rattle.stream_job.specs.SinkLines.{kept_by}
-use Rattle.stream_job.specs.graph_base.Graphs.{task_at}
-use Rattle.stream_job.specs.graph_runs.Moments.{Moment}
-use Rattle.stream_job.specs.graph_runs.Turned.{with_at}
-use Rattle.stream_job.specs.stream_lists.Jobs.{Job}
-use Rattle.stream_job.specs.stream_lists.Lists.{is_sink_at, sinks_of}
-use Rattle.stream_job.proofs.graph_runs_lemmas.Turned.{at_other, at_same}
-use Rattle.stream_job.proofs.stream_lists_lemmas.Growing.{map-same}
+use Rattle.graph_base.specs.Graphs.{task_at}
+use Rattle.graph_runs.specs.Moments.{Moment}
+use Rattle.graph_runs.specs.Turned.{with_at}
+use Rattle.stream_lists.specs.Jobs.{Job}
+use Rattle.stream_lists.specs.Lists.{is_sink_at, sinks_of}
+use Rattle.graph_runs.proofs.Turned.{at_other, at_same}
+use Rattle.stream_lists.proofs.Growing.{map-same}
 use Rattle.phase_stream.specs.Columns.{ColumnBeginsAt, ColumnStands, IsNewColumn, TakesOver, least_start}
 use Rattle.phase_stream.specs.TableLines.{AreNewColumns, HasLast, Shows, ShowsMore, View, by_number, table_text}
 use Rattle.phase_stream.specs.declared.column.Column.{Column}
@@ -280,6 +280,7 @@ shows_none job ended going s m given columns new bare = record {
         late = is.late ∙ (let same = start in omega arith);
         waits = is.values ∙ sym (drop_none (0 - least_start job (get_or (sinks_of job) k 0)) [] refl);
         far = λ stays. omega arith;
+        counted = is.count;
         none = λ unknown. refl;
         all = λ stays. sym (bare k);
         begins = λ more fed ready. (_, refl);

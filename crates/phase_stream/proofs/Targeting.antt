@@ -8,7 +8,7 @@ use Rattle.graph_commands.specs.GraphRuns.{sink_named}
 use Rattle.phase_words.specs.Outputs.{Pair, pair_as}
 use Rattle.phase_words.specs.declared.call.SinkFile.{SinkFile}
 use Rattle.phase_words.specs.StreamLine.{Stream}
-use Rattle.stream_job.specs.stream_lists.Jobs.{Job}
+use Rattle.stream_lists.specs.Jobs.{Job}
 use Rattle.phase_stream.specs.Outputs.{AreTargetsOf, IsOutputTarget, LacksSink, is_asked, task_to}
 use Rattle.phase_stream.specs.Sessions.{AreTargets, IsSinkNumber, sink_for, task_for}
 use Rattle.phase_stream.specs.declared.sink.Sink.{Sink}

@@ -5,25 +5,25 @@ use Rattle.std.proofs.KnownBytes.{Appends-trans}
 use Rattle.std.proofs.lemmas.List.{get_or-map}
 use Rattle.std.specs.Io.KnownBytes.{Appends}
 use Rattle.graph_commands.specs.FileJobs.{Known}
-use Rattle.graph_commands.specs.watched_io.Prefix.{AppendsPrefix}
+use Rattle.watched_io.specs.Prefix.{AppendsPrefix}
 use Rattle.stream_job.specs.SinkLines.{kept_by}
 use Rattle.stream_job.specs.Streams.{IsStreamAt, StreamGoesOn, StreamState, after_sized, ended_at, has_ended}
 use Rattle.stream_job.specs.declared.stopped.Stopped.{Stopped}
 use Rattle.stream_job.specs.declared.stopped.Stopped.TheVariants as stopped
-use Rattle.stream_job.specs.graph_base.Graphs.{is_sink, source_number, task_at}
-use Rattle.stream_job.specs.graph_runs.Feeds.{IsFed}
-use Rattle.stream_job.specs.graph_runs.InTime.{BeginsInTime}
-use Rattle.stream_job.specs.graph_runs.Moments.{Moment, started}
-use Rattle.stream_job.specs.graph_runs.Settled.{IsReady}
-use Rattle.stream_job.specs.stream_lists.Jobs.{Job, with_samples}
-use Rattle.stream_job.specs.stream_lists.Lists.{is_sink_at, lines_of, numbers_of, sink_over, sinks_of}
-use Rattle.stream_job.specs.stream_lists.Ranges.{answer_of}
-use Rattle.stream_job.specs.stream_lists.Spans.{schedule_of}
-use Rattle.stream_job.proofs.graph_runs_lemmas.StartsAtEnd.{start_of_others}
+use Rattle.graph_base.specs.Graphs.{is_sink, source_number, task_at}
+use Rattle.graph_runs.specs.Feeds.{IsFed}
+use Rattle.graph_runs.specs.InTime.{BeginsInTime}
+use Rattle.graph_runs.specs.Moments.{Moment, started}
+use Rattle.graph_runs.specs.Settled.{IsReady}
+use Rattle.stream_lists.specs.Jobs.{Job, with_samples}
+use Rattle.stream_lists.specs.Lists.{is_sink_at, lines_of, numbers_of, sink_over, sinks_of}
+use Rattle.stream_lists.specs.Ranges.{answer_of}
+use Rattle.stream_lists.specs.Spans.{schedule_of}
+use Rattle.graph_runs.proofs.StartsAtEnd.{start_of_others}
 use Rattle.phase_stream.specs.Columns.{ColumnStands, HasNoMore, InRuns}
 use Rattle.phase_stream.specs.Sessions.{Forgets, HasStopped, sink_list}
 use Rattle.phase_stream.specs.Streams.{GoesOnBehind}
-use Rattle.phase_stream.specs.TableLines.{EachGoes, ColumnsEndBy, Shows, ShowsMore, TableStands, TableStopped, View, WritesTableLines, WritesSomeLines, by_number, goes_on, has_line, have_left, table_text}
+use Rattle.phase_stream.specs.TableLines.{EachGoes, ColumnsEndBy, IsSameStop, Shows, ShowsMore, TableStands, TableStopped, View, WritesTableLines, WritesSomeLines, by_number, goes_on, has_line, have_left, table_text}
 use Rattle.phase_stream.specs.Tables.{WritesTable, WritesTablePart}
 use Rattle.phase_stream.specs.declared.column.Column.{Column}
 use Rattle.phase_stream.specs.declared.session.Session.{Session}
@@ -156,6 +156,30 @@ after_take {R} remaining held old now before after table taken stop st stops tak
           (later.2 k (subst (λ (j : Job). k < length (sinks_of j)) forgets.job lt));
     }
 
+-- ---- another source is hungry
+
+pub same_stop : {R : Type 0} (remaining : R → Option (List ℕ)) (held : Known)
+    (old now : Option (List ℕ)) (session : Session R) (table : Table) (stop found : Stopped)
+    → TableStopped remaining held old now session table stop → IsSameStop stop found
+    → TableStopped remaining held old now session table found
+same_stop remaining held old now session table (stopped.Hungry source) found st same =
+    subst (TableStopped remaining held old now session table) (sym same.1) (record {
+      table_stands = st.table_stands;
+      stopped_is = st.stopped_is;
+      no_line = st.no_line;
+      done = st.done;
+    })
+same_stop remaining held old now session table (stopped.Full sink) found st same =
+    subst (TableStopped remaining held old now session table) (sym same) st
+same_stop remaining held old now session table stopped.Stalled found st same =
+    subst (TableStopped remaining held old now session table) (sym same) st
+same_stop remaining held old now session table stopped.Done found st same =
+    subst (TableStopped remaining held old now session table) (sym same) st
+same_stop remaining held old now session table (stopped.TooBig place phase) found st same =
+    subst (TableStopped remaining held old now session table) (sym same) st
+same_stop remaining held old now session table stopped.Paused found st same =
+    subst (TableStopped remaining held old now session table) (sym same) st
+
 -- ---- the run is over
 
 -- where a job's answer is what its sinks have kept, it is the list of each
@@ -174,7 +198,7 @@ kept_list job kept k lt answer =
     (sym there ∙ ap (λ l. get_or l k (0, [])) lines ∙ here)
 
 -- a column keeps that its sink has left
-left_stands : (job : Job) (ended : ℕ → Bool) (s : List (List ℤ)) (m : Moment) (g : List ℤ)
+pub left_stands : (job : Job) (ended : ℕ → Bool) (s : List (List ℤ)) (m : Moment) (g : List ℤ)
     (old new : Column) (step start : ℕ) (list : List ℤ) → HasNoMore old new
     → InRuns job ended s m (λ run. (list ≡ sink_list run old.task) × BeginsInTime run old.task)
     → ColumnStands job ended s m g old step start list
@@ -186,6 +210,7 @@ left_stands job ended s m g old new step start list left whole stands =
       late = stands.late;
       waits = stands.waits;
       far = λ stays. absurd (let wrong : true ≡ false = stays in cc);
+      counted = stands.counted;
       none = stands.none;
       all = λ stays. absurd (let wrong : true ≡ false = stays in cc);
       begins = stands.begins;

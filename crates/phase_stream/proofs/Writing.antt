@@ -1,5 +1,5 @@
 -- What was written, by what the sink has kept.
-use Rattle.std.proofs.Common.{◌≡◌, ◌<◌, ◌++◌, ℕ, ℤ, Bool, true, false, eqb, List, [], ◌∷◌, Option, Some, None, Ok, length, get_or, map, zero, suc, refl, sym, ap, subst, ◌∙◌, rules, arith}
+use Rattle.std.proofs.Common.{◌≡◌, ◌<◌, ◌++◌, ℕ, ℤ, Bool, true, false, eqb, List, [], ◌∷◌, Option, Some, None, Ok, length, get_or, map, zero, suc, refl, sym, ap, subst, ◌∙◌, rules, arith, inl, inr, String, Vec}
 use Rattle.std.proofs.lemmas.Bool.{eq-eqb, eqb-true}
 use Rattle.std.specs.List.{flat_map}
 use Rattle.std.specs.Io.KnownBytes.{Appends}
@@ -11,29 +11,28 @@ use Rattle.graph_commands.specs.declared.failure.Failure.{Failure}
 use Rattle.graph_commands.specs.declared.failure.Failure.TheVariants as failure
 use Rattle.graph_commands.specs.declared.fault.JobFault.{JobFault}
 use Rattle.graph_commands.specs.declared.fault.JobFault.TheVariants as faults
-use Rattle.graph_commands.specs.watched_io.Prefix.{AppendsPrefix}
-use Rattle.graph_commands.specs.watched_io.States.{WriterState}
+use Rattle.watched_io.specs.Prefix.{AppendsPrefix}
+use Rattle.watched_io.specs.States.{WriterState}
 use Rattle.stream_job.specs.Gone.{has_gone}
 use Rattle.stream_job.specs.SinkLines.{kept_by}
 use Rattle.std.specs.Prelude.{◌⊎◌, string_bytes}
 use Rattle.std.specs.Global.{Global}
-use Rattle.std.proofs.Common.{inl, inr, String, Vec}
 use Rattle.phase_stream.proofs.Handing.{whole_part}
 use Rattle.stream_job.proofs.GivenLines.{sink_there}
 use Rattle.phase_stream.specs.declared.source.Lack.{Lack}
 use Rattle.phase_stream.specs.declared.source.Lack.TheVariants as lack
-use Rattle.stream_job.specs.graph_base.declared.place.Place.TheVariants as place
+use Rattle.graph_base.specs.declared.place.Place.TheVariants as place
 use Rattle.stream_job.specs.Streams.{IsSourceAt, IsStreamAt, StreamState, has_ended}
 use Rattle.stream_job.specs.declared.stopped.Stopped.{Stopped}
 use Rattle.stream_job.specs.declared.stopped.Stopped.TheVariants as stopped
-use Rattle.stream_job.specs.graph_base.Graphs.{name_at, task_at}
-use Rattle.stream_job.specs.graph_runs.Moments.{Moment, started}
-use Rattle.stream_job.specs.stream_lists.Jobs.{Job, with_samples}
-use Rattle.stream_job.specs.stream_lists.Lists.{lines_of, numbers_of, sinks_of, start_in, taken_from, with_start}
-use Rattle.stream_job.specs.stream_lists.Ranges.{Fits, answer_of}
-use Rattle.stream_job.specs.stream_lists.Spans.{span_in}
-use Rattle.stream_job.proofs.graph_runs_lemmas.phase_history_lemmas.Streams.{IsPrefix-trans}
-use Rattle.stream_job.proofs.stream_lists_lemmas.Basics.{answer_fits}
+use Rattle.graph_base.specs.Graphs.{name_at, task_at}
+use Rattle.graph_runs.specs.Moments.{Moment, started}
+use Rattle.stream_lists.specs.Jobs.{Job, with_samples}
+use Rattle.stream_lists.specs.Lists.{lines_of, numbers_of, sinks_of, start_in, taken_from, with_start}
+use Rattle.stream_lists.specs.Ranges.{Fits, answer_of}
+use Rattle.stream_lists.specs.Spans.{span_in}
+use Rattle.phase_history.proofs.Streams.{IsPrefix-trans}
+use Rattle.stream_lists.proofs.Basics.{answer_fits}
 use Rattle.phase_stream.specs.Outputs.{StopOf, WriteKept, WriteParts, WriteWhole}
 use Rattle.phase_stream.specs.Sessions.{AllHanded, AreKeptRight, AreTargets, AreWritten, IsKeptWhole, IsFaultWithoutText, Reaches, StandsLacking, StandsStopped, sink_list, task_for, values_for}
 use Rattle.phase_stream.specs.Streams.{GoesOnBehind}

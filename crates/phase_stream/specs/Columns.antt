@@ -4,13 +4,14 @@ use Rattle.std.specs.declared.option.Option.{Option}
 use mathlib.Core.List.{IsPrefix}
 use Rattle.graph_commands.specs.ColumnTexts.{end_from, value_from}
 use Rattle.stream_job.specs.SinkLines.{kept_by, sink_begins_at}
-use Rattle.stream_job.specs.graph_base.Graphs.{task_at}
-use Rattle.stream_job.specs.graph_runs.Beginnings.{opening_offsets}
-use Rattle.stream_job.specs.graph_runs.Feeds.{IsFed}
-use Rattle.stream_job.specs.graph_runs.InTime.{BeginsInTime}
-use Rattle.stream_job.specs.graph_runs.Moments.{Moment, started}
-use Rattle.stream_job.specs.graph_runs.Settled.{IsReady}
-use Rattle.stream_job.specs.stream_lists.Jobs.{Job, with_samples}
+use Rattle.graph_base.specs.Graphs.{task_at}
+use Rattle.graph_base.specs.declared.line.Parent.{Parent}
+use Rattle.graph_runs.specs.Beginnings.{opening_offsets}
+use Rattle.graph_runs.specs.Feeds.{IsFed}
+use Rattle.graph_runs.specs.InTime.{BeginsInTime}
+use Rattle.graph_runs.specs.Moments.{Moment, started}
+use Rattle.graph_runs.specs.Settled.{IsReady}
+use Rattle.stream_lists.specs.Jobs.{Job, with_samples}
 use Rattle.phase_stream.specs.Sessions.{sink_list}
 use Rattle.phase_stream.specs.declared.column.Column.{Column}
 
@@ -39,6 +40,7 @@ pub record IsSameSink (old new : Column) : Type 0 where
 -- the next line was written
 pub record HasPassedLine (old new : Column) : Type 0 where
   pub late : new.late ≡ old.late - 1
+  pub count : new.count ≡ old.count
   pub values : new.values.items
       ≡ (if nat_lt 0 old.late then old.values.items else drop 1 old.values.items)
   pub same : IsSameSink old new
@@ -88,6 +90,7 @@ pub record ColumnStands (job : Job) (ended : ℕ → Bool) (s : List (List ℤ))
   pub late : column.late ≡ start - step
   pub waits : column.values.items ≡ drop (step - start) list
   pub far : column.has_left ≡ false → step ≤ start + length list
+  pub counted : column.count ≡ min 18446744073709551615 (length list)
   pub none : column.has_start ≡ false → list ≡ []
   pub all : column.has_left ≡ false → list ≡ given
   pub begins : InRuns job ended s m (λ run. IsPrefix list (sink_list run column.task))
@@ -112,4 +115,19 @@ pub record IsNewColumn (job : Job) (t : ℕ) (column : Column) : Type 0 where
   pub late : column.late ≡ column.least
   pub has_start : column.has_start ≡ not (task_at job.graph t).joins_now
   pub has_left : column.has_left ≡ false
+  pub count : column.count ≡ 0
   pub values : column.values.items ≡ []
+
+-- ---- a column that never begins
+
+-- its parent, a sink too, has left behind fewer steps than those after which it would have come
+pub record NeverComes (job : Job) (columns : List Column) (column : Column) : Type 0 where
+  pub parent : Parent
+  pub is_child : (task_at job.graph column.task).parent ≡ Some parent
+  pub place : ℕ
+  pub by : Column
+  pub there : slice_get columns place ≡ Some by
+  pub task : by.task ≡ parent.task
+  pub left : by.has_left ≡ true
+  pub few : by.count < parent.at
+  pub started : column.has_start ≡ true

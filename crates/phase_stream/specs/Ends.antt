@@ -2,10 +2,10 @@
 use Rattle.std.specs.Prelude.{◌≡◌, ◌⊎◌, ℕ, Bool, false, true, List, [], Option}
 use Rattle.graph_commands.specs.FileJobs.{Known}
 use Rattle.graph_commands.specs.Folders.{known_by}
-use Rattle.graph_commands.specs.watched_io.States.{WriterState}
-use Rattle.graph_commands.specs.watched_io.declared.status.Status.{Status}
-use Rattle.graph_commands.specs.watched_io.declared.status.Status.TheVariants.{Done, Failed, GraphRefused, Stalled, TooBig}
-use Rattle.graph_commands.specs.watched_io.declared.watched.Watched.{Watched}
+use Rattle.watched_io.specs.States.{WriterState}
+use Rattle.watched_io.specs.declared.status.Status.{Status}
+use Rattle.watched_io.specs.declared.status.Status.TheVariants.{Done, Failed, GraphRefused, Stalled, TooBig}
+use Rattle.watched_io.specs.declared.watched.Watched.{Watched}
 use Rattle.phase_stream.specs.Outputs.{StreamEndsBy}
 use Rattle.phase_stream.specs.Streams.{StreamEnds}
 use Rattle.phase_stream.specs.Tables.{TableEnds}

@@ -14,24 +14,24 @@ use Rattle.graph_commands.specs.declared.failure.Failure.{Failure}
 use Rattle.graph_commands.specs.declared.failure.Failure.TheVariants as failure
 use Rattle.graph_commands.specs.declared.fault.JobFault.TheVariants as fault
 use Rattle.graph_commands.specs.declared.graph_file.TheConstants.{GRAPH_MAX}
-use Rattle.graph_commands.specs.watched_io.Files.{MayNeedMemory}
-use Rattle.graph_commands.specs.watched_io.Prefix.{AppendsPrefix}
-use Rattle.graph_commands.specs.watched_io.States.{WriterState, writer_state}
-use Rattle.graph_commands.specs.watched_io.declared.fault.IoFault.{IoFault}
-use Rattle.graph_commands.specs.watched_io.declared.fault.IoFault.TheVariants as io_fault
-use Rattle.graph_commands.specs.watched_io.declared.status.Status.{Status}
-use Rattle.graph_commands.specs.watched_io.declared.status.Status.TheVariants.{Done}
-use Rattle.graph_commands.specs.watched_io.declared.watched.Watched.{Watched}
+use Rattle.watched_io.specs.Files.{MayNeedMemory}
+use Rattle.watched_io.specs.Prefix.{AppendsPrefix}
+use Rattle.watched_io.specs.States.{WriterState, writer_state}
+use Rattle.watched_io.specs.declared.fault.IoFault.{IoFault}
+use Rattle.watched_io.specs.declared.fault.IoFault.TheVariants as io_fault
+use Rattle.watched_io.specs.declared.status.Status.{Status}
+use Rattle.watched_io.specs.declared.status.Status.TheVariants.{Done}
+use Rattle.watched_io.specs.declared.watched.Watched.{Watched}
 use Rattle.phase_words.specs.Outputs.{Pair}
 use Rattle.phase_words.specs.StreamLine.{Stream}
 use Rattle.stream_job.specs.SinkLines.{kept_by}
-use Rattle.stream_job.specs.graph_base.Graphs.{Graph, file_at, sources_of}
-use Rattle.stream_job.specs.graph_runs.InTime.{BeginsInTime}
-use Rattle.stream_job.specs.graph_runs.Moments.{Moment, started}
-use Rattle.stream_job.specs.graph_runs.Reached.{IsReachable}
-use Rattle.stream_job.specs.graph_runs.Settled.{IsReady}
-use Rattle.stream_job.specs.stream_lists.Jobs.{Job, with_samples, with_starts}
-use Rattle.stream_job.specs.stream_lists.Lists.{sinks_of}
+use Rattle.graph_base.specs.Graphs.{Graph, file_at, sources_of}
+use Rattle.graph_runs.specs.InTime.{BeginsInTime}
+use Rattle.graph_runs.specs.Moments.{Moment, started}
+use Rattle.graph_runs.specs.Reached.{IsReachable}
+use Rattle.graph_runs.specs.Settled.{IsReady}
+use Rattle.stream_lists.specs.Jobs.{Job, with_samples, with_starts}
+use Rattle.stream_lists.specs.Lists.{sinks_of}
 use Rattle.phase_stream.specs.Sessions.{AreTargets, HasFailed, IsSinkNumber, sink_list, task_for}
 use Rattle.phase_stream.specs.Streams.{AllFit, CameOf, EndsInRecord, GivesNoRun, GoesOnBehind, IsFaultBehind, IsStandstill, LeavesWith, StopsTold}
 use Rattle.phase_stream.specs.declared.sink.Sink.{Sink}
@@ -147,17 +147,26 @@ is_source_file is_beside name graph file =
     list_any (λ k. bytes_eq file (opened_as is_beside name (file_at graph k)))
     (range_with_len 0 (sources_of graph))
 
--- none of these is
-abbrev pub AreNoSources : Bool → List ℕ → Graph → List Pair → Type 0
-AreNoSources is_beside name graph files = (k : ℕ) (file : Pair) → slice_get files k ≡ Some file
-    → is_source_file is_beside name graph file.1 ≡ false
+-- whether it is the graph's file, or that of a source
+abbrev pub is_read_file : Bool → List ℕ → Graph → List ℕ → Bool
+is_read_file is_beside name graph file =
+    bytes_eq file name || is_source_file is_beside name graph file
 
--- what the words ask for is there: the file tells a graph with the sinks, and what they go to is no
--- file of a source
+-- none of these is
+abbrev pub AreNotRead : Bool → List ℕ → Graph → List Pair → Type 0
+AreNotRead is_beside name graph files = (k : ℕ) (file : Pair) → slice_get files k ≡ Some file
+    → is_read_file is_beside name graph file.1 ≡ false
+
+-- what the words ask for is there: the file tells a graph with the sinks, and what they go to is
+-- neither that file nor one of a source
 pub record IsAsAsked (known : Known) (what : Stream) (job : Job) : Type 0 where
   pub graph_of : IsGraphOf known what.graph job.graph
   pub sinks : HasSinks job what.sink what.files
-  pub apart : AreNoSources what.beside what.graph job.graph what.files
+  pub apart : AreNotRead what.beside what.graph job.graph what.files
+
+-- no file was made, and so none was cut, or what the words ask for is there
+abbrev pub AreMadeLast : {V : Type 0} → Known → Stream → List (Watched V) → Type 0
+AreMadeLast known what made = (made ≡ []) ⊎ ((job : Job) × IsAsAsked known what job)
 
 -- ---- what is written
 
@@ -255,7 +264,7 @@ StopOf held job goes many old new (failure.Io found) =
     × StopBehind held job goes old (λ k. (new k).written) (λ samples ended starts. ⊤)
 
 -- why no file was made, or not all: memory ran out, or one could not be made, which may be that of
--- a source
+-- the graph, of a source or of another sink
 abbrev pub IsUnmadeFile : Known → Stream → IoFault → Type 0
 IsUnmadeFile known what found =
     ((found ≡ io_fault.OutOfMemory) × MayNeedMemory GRAPH_MAX (known what.graph))
@@ -293,11 +302,13 @@ pub record StreamStops (known : Known) (what : Stream) (old : ℕ → Option (Li
   pub stops : StopOf known job (task_to job what.sink what.files) (length what.files + 1) old new
       found
 
--- it did not begin, and nothing was written, or it stopped behind what was
+-- it did not begin, nothing was written, and files were made only where what the words ask for is
+-- there; or it stopped behind what was written
 abbrev pub StreamFailsBy : {W V : Type 0} → Known → Stream → Bool → (W → Option (List ℕ))
     → (V → Option (List ℕ)) → Watched W → Watched W → List (Watched V) → Failure → Type 0
 StreamFailsBy known what knows of_output of_file old new made found =
-    (IsUnbegunStream known what found × (new ≡ old) × AreBare knows of_file made)
+    (IsUnbegunStream known what found × (new ≡ old) × AreBare knows of_file made
+    × AreMadeLast known what made)
     ⊎ StreamStops known what (bare_at knows what.files (of_output old.inner))
     (writers_at of_output of_file new made) found
 

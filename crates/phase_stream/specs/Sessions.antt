@@ -7,27 +7,27 @@ use Rattle.std.specs.Io.KnownBytes.{Appends}
 use mathlib.Core.List.{IsPrefix}
 use Rattle.graph_commands.specs.FileJobs.{Known}
 use Rattle.graph_commands.specs.OutputTexts.{value_text}
-use Rattle.graph_commands.specs.watched_io.Prefix.{AppendsPrefix}
-use Rattle.graph_commands.specs.watched_io.States.{WriterState}
+use Rattle.watched_io.specs.Prefix.{AppendsPrefix}
+use Rattle.watched_io.specs.States.{WriterState}
 use Rattle.graph_commands.specs.declared.failure.Failure.{Failure}
 use Rattle.graph_commands.specs.declared.failure.Failure.TheVariants as failure
 use Rattle.graph_commands.specs.declared.fault.JobFault.{JobFault}
 use Rattle.stream_job.specs.Machines.{none_given}
-use Rattle.stream_job.specs.graph_runs.Beginnings.{opening}
+use Rattle.graph_runs.specs.Beginnings.{opening}
 use Rattle.stream_job.specs.InRange.{is_held_up, stands_before}
 use Rattle.stream_job.specs.Streams.{EachStands, FirstStands, IsSourceAt, IsStreamAt, StreamState, all_tasks, ended_at, has_ended, is_hungry, is_some_live, none_came}
 use Rattle.stream_job.specs.SinkLines.{kept_by}
 use Rattle.stream_job.specs.declared.stopped.Stopped.{Stopped}
 use Rattle.stream_job.specs.declared.stopped.Stopped.TheVariants as stopped
-use Rattle.stream_job.specs.graph_base.Graphs.{file_at, source_number, sources_of, task_at}
-use Rattle.stream_job.specs.graph_runs.Feeds.{IsFed}
-use Rattle.stream_job.specs.graph_runs.InTime.{BeginsInTime}
-use Rattle.stream_job.specs.graph_runs.Moments.{Moment, started}
-use Rattle.stream_job.specs.graph_runs.Settled.{IsFaultAt, IsReady}
-use Rattle.stream_job.specs.stream_lists.Jobs.{Job, with_samples}
-use Rattle.stream_job.specs.stream_lists.Lists.{numbers_of, sinks_of, taken_from}
-use Rattle.stream_job.specs.stream_lists.Ranges.{Where, answer_of}
-use Rattle.stream_job.specs.stream_lists.Spans.{span_in}
+use Rattle.graph_base.specs.Graphs.{file_at, source_number, sources_of, task_at}
+use Rattle.graph_runs.specs.Feeds.{IsFed}
+use Rattle.graph_runs.specs.InTime.{BeginsInTime}
+use Rattle.graph_runs.specs.Moments.{Moment, started}
+use Rattle.graph_runs.specs.Settled.{IsFaultAt, IsReady}
+use Rattle.stream_lists.specs.Jobs.{Job, with_samples}
+use Rattle.stream_lists.specs.Lists.{numbers_of, sinks_of, taken_from}
+use Rattle.stream_lists.specs.Ranges.{Where, answer_of}
+use Rattle.stream_lists.specs.Spans.{span_in}
 use Rattle.phase_stream.specs.Sources.{HasComeOf, IsSource, Lacks}
 use Rattle.phase_stream.specs.declared.session.Session.{Session}
 use Rattle.phase_stream.specs.declared.sink.Sink.{Sink}

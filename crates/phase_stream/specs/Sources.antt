@@ -3,16 +3,16 @@ use Rattle.std.specs.Prelude.{◌≡◌, ◌≤◌, ◌+◌, ◌++◌, ◌==◌,
 use Rattle.std.specs.List.{count_by}
 use Rattle.std.specs.Io.KnownBytes.{Consumes}
 use mathlib.Core.List.{IsPrefix}
-use Rattle.graph_commands.specs.watched_io.Files.{HasBytes}
-use Rattle.graph_commands.specs.watched_io.Watched.{inner_of}
+use Rattle.watched_io.specs.Files.{HasBytes}
+use Rattle.watched_io.specs.Watched.{inner_of}
 use Rattle.graph_commands.specs.Explained.{TellsFrom}
 use Rattle.graph_commands.specs.FileJobs.{Known}
-use Rattle.stream_job.specs.graph_base.Graphs.{file_at}
-use Rattle.stream_job.specs.stream_lists.Jobs.{Job}
+use Rattle.graph_base.specs.Graphs.{file_at}
+use Rattle.stream_lists.specs.Jobs.{Job}
 use Rattle.stream_job.specs.Streams.{IsSourceAt}
-use Rattle.sample_pieces.specs.graph_lang.Samples.{AreRecordsOfValues, IsBadSample}
+use Rattle.graph_lang.specs.Samples.{AreRecordsOfValues, IsBadSample}
 use Rattle.sample_pieces.specs.Pieces.{HasRead}
-use Rattle.stream_job.specs.phase_accum.Sends.{AreSends}
+use Rattle.phase_accum.specs.Sends.{AreSends}
 use Rattle.phase_stream.specs.declared.record_text.RecordText.{RecordText}
 use Rattle.phase_stream.specs.declared.source.Lack.{Lack}
 use Rattle.phase_stream.specs.declared.source.Lack.TheVariants as lack

@@ -5,7 +5,7 @@ use Rattle.std.specs.declared.option.Option.{Option}
 use Rattle.std.specs.List.{flat_map, list_all}
 use Rattle.std.specs.Io.KnownBytes.{Appends}
 use mathlib.Core.List.{IsPrefix}
-use Rattle.graph_commands.specs.Ends.{IsTold}
+use Rattle.graph_commands.specs.Ends.{IsTold, SaysRefusal}
 use Rattle.graph_commands.specs.Failures.{failure_status}
 use Rattle.graph_commands.specs.Explained.{AreFurtherLines, IsOfText, IsTextOf}
 use Rattle.graph_commands.specs.FileJobs.{IsFaultOf, IsGraphOf, Known}
@@ -16,34 +16,34 @@ use Rattle.graph_commands.specs.declared.failure.Failure.TheVariants as failure
 use Rattle.graph_commands.specs.declared.fault.JobFault.{JobFault}
 use Rattle.graph_commands.specs.declared.fault.JobFault.TheVariants as fault
 use Rattle.graph_commands.specs.declared.graph_file.TheConstants.{GRAPH_MAX}
-use Rattle.graph_commands.specs.watched_io.Files.{MayBeRefused, MayNeedMemory}
-use Rattle.graph_commands.specs.watched_io.Prefix.{AppendsPrefix}
-use Rattle.graph_commands.specs.watched_io.States.{WriterState, writer_state}
-use Rattle.graph_commands.specs.watched_io.declared.explain.Explain.{Explain}
-use Rattle.graph_commands.specs.watched_io.declared.explain.Explain.TheVariants.{No}
-use Rattle.graph_commands.specs.watched_io.declared.fault.IoFault.TheVariants as io_fault
-use Rattle.graph_commands.specs.watched_io.declared.status.Status.{Status}
-use Rattle.graph_commands.specs.watched_io.declared.status.Status.TheVariants.{Done}
-use Rattle.graph_commands.specs.watched_io.declared.watched.Watched.{Watched}
+use Rattle.watched_io.specs.Files.{MayBeRefused, MayNeedMemory}
+use Rattle.watched_io.specs.Prefix.{AppendsPrefix}
+use Rattle.watched_io.specs.States.{WriterState, writer_state}
+use Rattle.watched_io.specs.declared.explain.Explain.{Explain}
+use Rattle.watched_io.specs.declared.explain.Explain.TheVariants.{No, Yes}
+use Rattle.watched_io.specs.declared.fault.IoFault.TheVariants as io_fault
+use Rattle.watched_io.specs.declared.status.Status.{Status}
+use Rattle.watched_io.specs.declared.status.Status.TheVariants.{Done}
+use Rattle.watched_io.specs.declared.watched.Watched.{Watched}
 use Rattle.stream_job.specs.Gone.{has_gone}
 use Rattle.stream_job.specs.SinkLines.{kept_by}
 use Rattle.stream_job.specs.InRange.{is_held_up}
 use Rattle.stream_job.specs.Streams.{IsSourceAt, all_tasks, is_some_live, most_of}
-use Rattle.stream_job.specs.graph_base.Graphs.{file_at, name_at, source_number, sources_of, task_at}
-use Rattle.stream_job.specs.graph_base.declared.line.Kind.TheVariants.{Source}
-use Rattle.stream_job.specs.graph_base.declared.place.Place.TheVariants as place
-use Rattle.sample_pieces.specs.graph_lang.declared.fault.FaultKind.{FaultKind}
-use Rattle.sample_pieces.specs.graph_lang.declared.fault.FaultKind.TheVariants.{AnyMeets}
-use Rattle.stream_job.specs.phase_accum.Sends.{AreSends}
-use Rattle.stream_job.specs.graph_runs.Feeds.{IsFed}
-use Rattle.stream_job.specs.graph_runs.InTime.{BeginsInTime}
-use Rattle.stream_job.specs.graph_runs.Moments.{Moment, started}
-use Rattle.stream_job.specs.graph_runs.Reached.{IsReachable}
-use Rattle.stream_job.specs.graph_runs.Settled.{IsFaultAt, IsReady}
-use Rattle.stream_job.specs.stream_lists.Jobs.{Job, counted, samples_in, with_samples, with_starts}
-use Rattle.stream_job.specs.stream_lists.Lists.{sinks_of}
-use Rattle.stream_job.specs.stream_lists.Meetings.{meeting_line}
-use Rattle.stream_job.specs.stream_lists.Ranges.{Fits, Where}
+use Rattle.graph_base.specs.Graphs.{file_at, name_at, source_number, sources_of, task_at}
+use Rattle.graph_base.specs.declared.line.Kind.TheVariants.{Source}
+use Rattle.graph_base.specs.declared.place.Place.TheVariants as place
+use Rattle.graph_lang.specs.declared.fault.FaultKind.{FaultKind}
+use Rattle.graph_lang.specs.declared.fault.FaultKind.TheVariants.{AnyMeets}
+use Rattle.phase_accum.specs.Sends.{AreSends}
+use Rattle.graph_runs.specs.Feeds.{IsFed}
+use Rattle.graph_runs.specs.InTime.{BeginsInTime}
+use Rattle.graph_runs.specs.Moments.{Moment, started}
+use Rattle.graph_runs.specs.Reached.{IsReachable}
+use Rattle.graph_runs.specs.Settled.{IsFaultAt, IsReady}
+use Rattle.stream_lists.specs.Jobs.{Job, counted, samples_in, with_samples, with_starts}
+use Rattle.stream_lists.specs.Lists.{sinks_of}
+use Rattle.stream_lists.specs.Meetings.{meeting_line}
+use Rattle.stream_lists.specs.Ranges.{Fits, Where}
 use Rattle.phase_stream.specs.Sessions.{AllWait, StandsBefore, sink_list}
 use Rattle.phase_stream.specs.Sources.{HasBadFrom, HasComeOf, TellsOfFile}
 
@@ -259,13 +259,25 @@ explained (failure.Graph (fault.Graph found) text) explain = of found.kind
     of kind = explain
 explained found explain = explain
 
+-- behind the line of a failed write stand the name of a file and why it was not written, or that
+-- memory ran out over that, or nothing, where no more is known
+pub record IsUnwrittenTold (before after : WriterState) : Type 0 where
+  pub told : WriterState
+  pub line : IsTold Yes (failure.Io io_fault.WriteFault) before told
+  pub further : (after ≡ told) ⊎ SaysRefusal told after
+
+-- a failure is told as other commands tell it, but for a failed write that is explained
+abbrev pub IsStreamTold : Explain → Failure → WriterState → WriterState → Type 0
+IsStreamTold Yes (failure.Io io_fault.WriteFault) before after = IsUnwrittenTold before after
+IsStreamTold explain found before after = IsTold explain found before after
+
 -- it failed of a cause, which was told
 pub record StopsTold (explain : Explain) (known : Known) (Fails : Failure → Type 0)
     (status : Status) (before after : WriterState) : Type 0 where
   pub found : Failure
   pub fails : Fails found
   pub status_is : status ≡ failure_status found
-  pub told : IsTold (explained found explain) found before after
+  pub told : IsStreamTold (explained found explain) found before after
 
 -- how a stream ends
 pub record StreamEnds {W : Type 0} (explain : Explain) (known : Known) (name : List ℕ)

@@ -3,16 +3,16 @@ use Rattle.std.specs.Prelude.{◌≡◌, ◌<◌, ◌≤◌, ◌++◌, ◌==◌,
 use Rattle.std.specs.declared.option.Option.{Option}
 use Rattle.std.specs.Io.KnownBytes.{Appends}
 use Rattle.std.specs.List.{flat_map, list_all, list_any, range_with_len}
-use Rattle.graph_commands.specs.watched_io.Prefix.{AppendsPrefix}
+use Rattle.watched_io.specs.Prefix.{AppendsPrefix}
 use Rattle.graph_commands.specs.ColumnTexts.{comma_before, end_from, row_text, value_cell, value_from}
 use Rattle.graph_commands.specs.FileJobs.{Known}
 use Rattle.stream_job.specs.SinkLines.{kept_by}
 use Rattle.stream_job.specs.Streams.{ended_at}
-use Rattle.stream_job.specs.graph_runs.Moments.{Moment}
-use Rattle.stream_job.specs.stream_lists.Jobs.{Job}
-use Rattle.stream_job.specs.stream_lists.Lists.{sinks_of}
+use Rattle.graph_runs.specs.Moments.{Moment}
+use Rattle.stream_lists.specs.Jobs.{Job}
+use Rattle.stream_lists.specs.Lists.{sinks_of}
 use Rattle.stream_job.specs.declared.stopped.Stopped.{Stopped}
-use Rattle.stream_job.specs.declared.stopped.Stopped.TheVariants.{Done}
+use Rattle.stream_job.specs.declared.stopped.Stopped.TheVariants.{Done, Hungry}
 use Rattle.phase_stream.specs.Columns.{ColumnStands, HasNoMore, IsNewColumn, has_value, is_known, next_cell}
 use Rattle.phase_stream.specs.Sessions.{HasStopped, StandsBy}
 use Rattle.phase_stream.specs.Tables.{unknown}
@@ -147,6 +147,11 @@ pub record TableStands {R : Type 0} (remaining : R → Option (List ℕ)) (held 
 abbrev pub goes_on : Stopped → Bool
 goes_on Done = false
 goes_on stop = true
+
+-- it is the same stop, but that the source that is told as hungry may be another
+abbrev pub IsSameStop : Stopped → Stopped → Type 0
+IsSameStop (Hungry source) found = (other : ℕ) × (found ≡ Hungry other)
+IsSameStop stop found = found ≡ stop
 
 -- it stopped so, and each line that is known was written: where it is done, all
 pub record TableStopped {R : Type 0} (remaining : R → Option (List ℕ)) (held : Known)

@@ -7,18 +7,18 @@ use Rattle.graph_commands.specs.FileJobs.{IsGraphOf, Known}
 use Rattle.graph_commands.specs.declared.failure.Failure.{Failure}
 use Rattle.graph_commands.specs.declared.failure.Failure.TheVariants as failure
 use Rattle.graph_commands.specs.declared.graph_file.TheConstants.{GRAPH_MAX}
-use Rattle.graph_commands.specs.watched_io.Files.{MayNeedMemory}
-use Rattle.graph_commands.specs.watched_io.Prefix.{AppendsPrefix}
-use Rattle.graph_commands.specs.watched_io.States.{WriterState, writer_state}
-use Rattle.graph_commands.specs.watched_io.declared.explain.Explain.{Explain}
-use Rattle.graph_commands.specs.watched_io.declared.fault.IoFault.TheVariants as io_fault
-use Rattle.graph_commands.specs.watched_io.declared.status.Status.{Status}
-use Rattle.graph_commands.specs.watched_io.declared.status.Status.TheVariants.{Done}
-use Rattle.graph_commands.specs.watched_io.declared.watched.Watched.{Watched}
-use Rattle.stream_job.specs.graph_runs.InTime.{BeginsInTime}
-use Rattle.stream_job.specs.graph_runs.Settled.{IsReady}
-use Rattle.stream_job.specs.stream_lists.Jobs.{Job, with_samples, with_starts}
-use Rattle.stream_job.specs.stream_lists.Lists.{lines_of}
+use Rattle.watched_io.specs.Files.{MayNeedMemory}
+use Rattle.watched_io.specs.Prefix.{AppendsPrefix}
+use Rattle.watched_io.specs.States.{WriterState, writer_state}
+use Rattle.watched_io.specs.declared.explain.Explain.{Explain}
+use Rattle.watched_io.specs.declared.fault.IoFault.TheVariants as io_fault
+use Rattle.watched_io.specs.declared.status.Status.{Status}
+use Rattle.watched_io.specs.declared.status.Status.TheVariants.{Done}
+use Rattle.watched_io.specs.declared.watched.Watched.{Watched}
+use Rattle.graph_runs.specs.InTime.{BeginsInTime}
+use Rattle.graph_runs.specs.Settled.{IsReady}
+use Rattle.stream_lists.specs.Jobs.{Job, with_samples, with_starts}
+use Rattle.stream_lists.specs.Lists.{lines_of}
 use Rattle.phase_stream.specs.Outputs.{IsUnreadGraph, StopOf}
 use Rattle.phase_stream.specs.Streams.{CameOf, GoesOnBehind, StopsTold}
 

@@ -1,26 +1,26 @@
 //! A run of the program over any outputs and files.
-ghost use Rattle.std.specs.Prelude.{◌≡◌, [], OnOk, IfErr};
-ghost use Rattle.graph_commands.specs.Ends.{IsTold};
+ghost use Rattle.std.specs.Prelude.{◌≡◌, ◌⊎◌, [], OnOk, IfErr};
+ghost use Rattle.graph_commands.specs.Ends.{IsTold, SaysRefusal};
 ghost use Rattle.graph_commands.specs.Failures.{HasPlace, failure_status};
 ghost use Rattle.graph_commands.specs.Folders.{known_by};
-ghost use Rattle.graph_commands.specs.watched_io.States.{writer_state};
+ghost use Rattle.watched_io.specs.States.{WriterState, writer_state};
 ghost use Rattle.phase_stream.specs.Ends.{EndsAsAsked, EndsAsStreamed, EndsAsTable, MayEndAsStream};
 ghost use Rattle.phase_stream.specs.Outputs.{StreamEndsBy};
-ghost use Rattle.phase_stream.specs.Streams.{explained};
+ghost use Rattle.phase_stream.specs.Streams.{IsStreamTold, explained};
 ghost use Rattle.phase_stream.specs.Tables.{TableEnds};
 ghost use Rattle.phase_words.specs.Answers.{AnswerEnds, MayEnd, Wrote, WroteIfBegun};
 ghost use Rattle.phase_words.specs.CommandLine.{texts};
 ghost use Rattle.phase_words.specs.StreamLine.{AreStreamTaken, AsksStream, Stream as AskedStream, stream_asked, stream_kinds_of};
 
-use crate::opens::Opens;
+use crate::opens::{OUTPUT, Opens};
 use crate::streamed::stream;
 use crate::streamed_table::stream_table;
-use graph_commands::watched_io::{Explain, Files, Status, Streams, Watched};
-use graph_commands::{Failure, JobFault, LooksBeside, Refuses, look_by, report};
+use graph_commands::{Failure, JobFault, LooksBeside, Refuses, look_by, report, tell_refusal};
+use graph_lang::{FaultKind, GraphFault};
 use phase_words::{StreamCall, answer, read_stream_words};
-use sample_pieces::graph_lang::{FaultKind, GraphFault};
 use std::alloc::Global;
 use std::io::Write;
+use watched_io::{Explain, IoFault, Status, Streams, Watched};
 
 /// Runs the program on its words, those behind `phase stream`, and answers its status: `Done` where
 /// the run is over, or help or the version was shown, `GraphRefused` where the graph or a sample is
@@ -103,6 +103,8 @@ fn run_sinks<W: Write, E: Write, F: Opens + Refuses + LooksBeside>(
 {
     look_by(alloc, &mut streams.files, call.beside, call.graph);
     let done = stream(alloc, call, &mut streams.output, made, &mut streams.files);
+    let failed = failed_name(call, &streams.output, made);
+    ask_why(alloc, failed, &mut streams.files);
     end(
         alloc,
         done,
@@ -111,6 +113,35 @@ fn run_sinks<W: Write, E: Write, F: Opens + Refuses + LooksBeside>(
         &mut streams.faults,
         &mut streams.files,
     )
+}
+
+/// The name of standard output, where a write to it failed.
+fn failed_output<W>(output: &Watched<W>) -> Option<&'static str> {
+    output.has_failed().then_some(OUTPUT)
+}
+
+/// Asks why a write failed to the file of this name, where one did.
+fn ask_why<F: Opens>(alloc: Global, failed: Option<&str>, files: &mut F) {
+    if let Some(name) = failed {
+        files.ask_why(alloc, name);
+    }
+}
+
+/// The name of the file that a write to failed, or of standard output.
+fn failed_name<'a, W, V>(
+    call: &StreamCall<'a>,
+    output: &Watched<W>,
+    made: &[Watched<V>],
+) -> Option<&'a str> {
+    if let Some(name) = failed_output(output) {
+        return Some(name);
+    }
+    for (file, writer) in call.files.iter().zip(made) {
+        if writer.has_failed() {
+            return Some(file.file);
+        }
+    }
+    None
 }
 
 /// Streams all sinks of a graph as the columns of a table.
@@ -127,6 +158,8 @@ fn run_table<W: Write, E: Write, F: Opens + Refuses + LooksBeside>(
 {
     look_by(alloc, &mut streams.files, call.beside, call.graph);
     let done = stream_table(alloc, call, &mut streams.output, &mut streams.files);
+    let failed = failed_output(&streams.output);
+    ask_why(alloc, failed, &mut streams.files);
     end(
         alloc,
         done,
@@ -139,7 +172,7 @@ fn run_table<W: Write, E: Write, F: Opens + Refuses + LooksBeside>(
 
 /// Ends the stream of the graph in the file of this name, and answers the status: `Done`, or where
 /// it failed that of its failure, which is reported.
-fn end<E: Write, F: Files + Refuses>(
+fn end<E: Write, F: Opens + Refuses>(
     alloc: Global,
     done: Result<(), Failure<'_>>,
     file: &str,
@@ -151,15 +184,46 @@ fn end<E: Write, F: Files + Refuses>(
     ensures done { OnOk done.entry ((result ≡ Status.Done) × (faults.new ≡ faults.old)) }
     ensures status { IfErr done.entry (λ found. result ≡ failure_status found) }
     ensures quiet { result ≡ Status.Done → faults.new ≡ faults.old }
-    ensures told { IfErr done.entry (λ found. IsTold (explained found explain) found
+    ensures told { IfErr done.entry (λ found. IsStreamTold (explained found explain) found
         (writer_state E.contents faults.old) (writer_state E.contents faults.new)) }
 {
     match done {
         Ok(()) => Status::Done,
         Err(failure) => {
             let explain = explained(&failure, explain);
-            report(alloc, &failure, file, explain, faults, files)
+            let status = report(alloc, &failure, file, explain, faults, files);
+            tell_more(alloc, &failure, explain, faults, files);
+            status
         }
+    }
+}
+
+/// Tells which file was not written, and why, behind what was told of a failure, where that is
+/// asked for.
+fn tell_more<E: Write, F: Opens>(
+    alloc: Global,
+    failure: &Failure<'_>,
+    explain: Explain,
+    faults: &mut Watched<E>,
+    files: &F,
+)
+    ensures { (before : WriterState)
+        → IsTold explain failure.now before (writer_state E.contents faults.old)
+        → IsStreamTold explain failure.now before (writer_state E.contents faults.new) }
+{
+    match (explain, failure) {
+        (Explain::Yes, Failure::Io(IoFault::WriteFault)) => tell_unwritten(alloc, faults, files),
+        _ => {}
+    }
+}
+
+/// Tells which file was not written, and why, where that is known.
+fn tell_unwritten<E: Write, F: Opens>(alloc: Global, faults: &mut Watched<E>, files: &F)
+    ensures { (writer_state E.contents faults.new ≡ writer_state E.contents faults.old)
+        ⊎ SaysRefusal (writer_state E.contents faults.old) (writer_state E.contents faults.new) }
+{
+    if let Some((name, why)) = files.unwritten() {
+        tell_refusal(alloc, name, why, faults);
     }
 }
 

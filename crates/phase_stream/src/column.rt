@@ -1,10 +1,11 @@
 //! A sink as a column of a table.
-ghost use Rattle.std.specs.Prelude.{◌≡◌, ◌<◌, ◌≤◌, ◌++◌, ℕ, ℤ, List, IfSome, OnOk, get_or, length, false};
+ghost use Rattle.std.specs.Prelude.{◌≡◌, ◌<◌, ◌≤◌, ◌+◌, ◌++◌, min, ℕ, ℤ, List, IfSome, OnOk, get_or, length, false};
 ghost use Rattle.stream_job.specs.Streams.{IsStreamAt, ended_at};
-ghost use Rattle.stream_job.specs.graph_runs.Moments.{Moment};
-ghost use Rattle.stream_job.specs.stream_lists.Lists.{sinks_of};
+ghost use Rattle.graph_runs.specs.Moments.{Moment};
+ghost use Rattle.stream_lists.specs.Lists.{sinks_of};
 ghost use Rattle.phase_stream.specs.Columns.{ColumnStands, HasPassedLine, IsNewColumn, IsSameSink, TakesOver, has_value, is_known, least_start, next_cell, started_column};
 
+use crate::table::WAITING_MAX;
 use std::alloc::{AllocError, Global};
 use std::collections::VecDeque;
 use stream_job::{Job, Stream, starts_are_in_time};
@@ -23,6 +24,8 @@ pub struct Column {
     pub values: VecDeque<i64>,
     /// Whether it gets no more values.
     pub has_left: bool,
+    /// How many values it took over, as far as they are counted.
+    pub count: u64,
 }
 
 impl Column {
@@ -39,6 +42,7 @@ impl Column {
             has_start: !job.graph().task(task).joins_now,
             values: VecDeque::new(alloc),
             has_left: false,
+            count: 0,
         }
     }
 
@@ -47,6 +51,11 @@ impl Column {
         ensures { result ≡ has_value self.now }
     {
         !self.values.is_empty()
+    }
+
+    /// Whether as many of its values wait for their lines as may.
+    pub fn is_full(&self) -> bool {
+        self.values.len() >= WAITING_MAX
     }
 
     /// Whether it is known what stands in it in the next line.
@@ -121,12 +130,15 @@ impl Column {
     /// Keeps values behind those that wait.
     fn keep(&mut self, values: &[i64]) -> Result<(), AllocError>
         ensures ok { OnOk result (self.new.values.items ≡ self.old.values.items ++ values.now) }
+        ensures counted { OnOk result (self.new.count
+            ≡ min 18446744073709551615 (self.old.count + length values.now)) }
         ensures late { self.new.late ≡ self.old.late }
         ensures same { IsSameSink self.old self.new }
     {
         for value in values {
             self.values.push_back(*value)?;
         }
+        self.count = self.count.saturating_add(values.len() as u64);
         Ok(())
     }
 }

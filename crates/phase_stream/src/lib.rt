@@ -23,8 +23,8 @@ mod source;
 mod streamed;
 mod streamed_table;
 mod table;
+mod wanted;
 mod writers;
 
 pub use cli::run_cli;
-pub use graph_commands;
-pub use opens::{Opens, Samples, StreamFiles};
+pub use opens::{OUTPUT, Opens, Role, Samples, StreamFiles};

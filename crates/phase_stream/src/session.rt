@@ -2,33 +2,33 @@
 ghost use Rattle.std.specs.Prelude.{◌≡◌, ◌≢◌, ◌<◌, ◌≤◌, ℕ, ℤ, List, Option, Some, [], IfOk, IfErr, OnOk, OnErr, IsErrOf, length, false, true};
 ghost use Rattle.std.specs.Io.KnownBytes.{Appends};
 ghost use Rattle.graph_commands.specs.FileJobs.{Known};
-ghost use Rattle.graph_commands.specs.watched_io.declared.fault.IoFault.TheVariants as io_fault;
-ghost use Rattle.stream_job.specs.graph_base.Graphs.{sources_of};
-ghost use Rattle.stream_job.specs.graph_runs.Moments.{Moment};
+ghost use Rattle.watched_io.specs.declared.fault.IoFault.TheVariants as io_fault;
+ghost use Rattle.graph_base.specs.Graphs.{sources_of};
+ghost use Rattle.graph_runs.specs.Moments.{Moment};
 ghost use mathlib.Core.List.{IsPrefix};
 ghost use Rattle.stream_job.specs.Gone.{has_gone};
 ghost use Rattle.stream_job.specs.SinkLines.{kept_by};
 ghost use Rattle.stream_job.specs.Streams.{IsStreamAt, StreamGoesOn};
 ghost use Rattle.stream_job.specs.declared.stopped.Stopped.{Stopped as StoppedValue};
 ghost use Rattle.stream_job.specs.declared.stopped.Stopped.TheVariants.{Hungry};
-ghost use Rattle.stream_job.specs.stream_lists.Lists.{sinks_of};
+ghost use Rattle.stream_lists.specs.Lists.{sinks_of};
 ghost use Rattle.phase_stream.specs.Outputs.{StopOf, writers_at};
 ghost use Rattle.phase_stream.specs.Sessions.{AreKeptRight, AreSources, AreTargets, Forgets, HandsOverAll, HandsPart, HasFailed, IsKeptRight, IsKeptWhole, IsStreamAtOpening, IsFaultWithoutText, MayStand, HasStopped, IsKnownAs, IsSameSession, StandsBy, StandsFresh, StandsFurther, StandsLacking, StandsPart, StandsStopped, WritesFirst, WritesLeft, WritesLeftPart, WritesSome, task_for};
 ghost use Rattle.phase_stream.specs.Sources.{AreUnopened};
 ghost use Rattle.graph_commands.specs.Explained.{AreFurtherLines};
 ghost use Rattle.graph_commands.specs.Failures.{HasPlace};
-ghost use Rattle.graph_commands.specs.watched_io.States.{WriterState};
+ghost use Rattle.watched_io.specs.States.{WriterState};
 
 use crate::opens::Opens;
 use crate::sink::Sink;
 use crate::source::{Lack, Room, Source};
 use crate::writers::write_to;
-use graph_commands::watched_io::{Explain, IoFault, Watched, WriteFailed};
+use graph_base::Place;
 use graph_commands::{Failure, JobFault, OutputBuffer, stall_told};
 use std::alloc::{AllocError, Global};
 use std::io::{Read, Write};
-use stream_job::graph_base::Place;
 use stream_job::{Job, Stopped, Stream, starts_are_in_time};
+use watched_io::{Explain, IoFault, Watched, WriteFailed};
 
 /// A run of a graph over the files of its sources, of which the values of sinks are written.
 #[derive(Drop)]

@@ -1,6 +1,6 @@
 //! The sinks that are asked for.
 ghost use Rattle.std.specs.Prelude.{◌≡◌, ◌<◌, ◌∷◌, [], ℕ, None, IfOk, IfErr, IfSome, length, true, option_map};
-ghost use Rattle.stream_job.specs.stream_lists.Lists.{is_sink_at, sinks_of};
+ghost use Rattle.stream_lists.specs.Lists.{is_sink_at, sinks_of};
 ghost use Rattle.phase_words.specs.StreamLine.{stream_asked};
 ghost use Rattle.phase_stream.specs.Outputs.{AreTargetsOf, IsOutputTarget, IsUntargeted, LacksSink};
 ghost use Rattle.phase_stream.specs.Sessions.{IsSinkNumber};

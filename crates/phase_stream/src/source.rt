@@ -1,17 +1,17 @@
 //! The file of a source, read piece by piece.
 ghost use Rattle.std.specs.Prelude.{◌≡◌, ◌≤◌, ◌+◌, ◌++◌, [], take, ℕ, ℤ, List, Option, Some, OnOk, IfOk, IfErr, IfSome, length, false, true};
 ghost use Rattle.std.specs.Io.KnownBytes.{IsAtEnd, Keeps};
-ghost use Rattle.graph_commands.specs.watched_io.Watched.{inner_of};
+ghost use Rattle.watched_io.specs.Watched.{inner_of};
 ghost use Rattle.phase_stream.specs.Sources.{PieceGives, GivesSource, HasBadFrom, IsBehind, IsOpenFile, IsSource, IsTextOfFile, Lacks, IsKeptOf, TellsOfFile};
 
 use crate::opens::Opens;
 use crate::record_text::RecordText;
 use graph_commands::OutputBuffer;
-use graph_commands::watched_io::{Explain, ReadFailed, Watched};
-use sample_pieces::graph_lang::text_laws;
+use graph_lang::text_laws;
 use sample_pieces::{Found, SampleReader, laws};
 use std::alloc::Global;
 use std::io::Read;
+use watched_io::{Explain, ReadFailed, Watched};
 
 /// The most bytes that are read at once: no more records can end in them than a source has room
 /// for.

@@ -4,7 +4,7 @@ ghost use Rattle.graph_commands.specs.Explained.{IsTextOf};
 ghost use Rattle.graph_commands.specs.Failures.{HasPlace};
 ghost use Rattle.graph_commands.specs.declared.failure.Failure.TheVariants as failure;
 ghost use Rattle.graph_commands.specs.FileJobs.{IsGraphOf, Known};
-ghost use Rattle.graph_commands.specs.watched_io.Watched.{inner_of};
+ghost use Rattle.watched_io.specs.Watched.{inner_of};
 ghost use Rattle.phase_words.specs.StreamLine.{stream_asked};
 ghost use Rattle.phase_stream.specs.Outputs.{AreTargetsOf, IsUnreadGraph, StopOf, StreamDoes, StreamFailsBy, WriteWhole, bare_at, writers_at};
 ghost use Rattle.phase_stream.specs.Sessions.{AreTargets, IsKnownAs, IsStreamAtOpening, StandsBy, task_for};
@@ -15,15 +15,15 @@ use crate::session::Session;
 use crate::sink::{Sink, Untargeted, targets};
 use crate::source::{Lack, Room};
 use crate::writers::make_files;
-use graph_commands::watched_io::{Explain, Files, IoFault, Watched};
+use graph_base::Place;
 use graph_commands::{Failure, GRAPH_MAX, JobFault};
+use graph_lang::{FaultKind, GraphFault, read_graph};
+use graph_runs::outcomes;
 use phase_words::StreamCall;
-use sample_pieces::graph_lang::{FaultKind, GraphFault, read_graph};
 use std::alloc::Global;
 use std::io::Write;
-use stream_job::graph_base::Place;
-use stream_job::graph_runs::outcomes;
 use stream_job::{Job, JobRefusal, Stopped, Stream};
+use watched_io::{Explain, Files, IoFault, Watched};
 
 /// Reads the graph of a file, and then the samples of its sources as they come, and writes the
 /// values of the sinks that are asked for as they come.

@@ -3,10 +3,10 @@
 ghost use Rattle.std.specs.Prelude.{◌≡◌, [], ℕ, List, Option, OnOk, OnErr, IfOk, IfErr, IsErrOf, map, true};
 ghost use Rattle.graph_commands.specs.Failures.{HasPlace};
 ghost use Rattle.graph_commands.specs.FileJobs.{IsGraphOf, Known};
-ghost use Rattle.graph_commands.specs.watched_io.States.{writer_state};
-ghost use Rattle.graph_commands.specs.watched_io.Watched.{has_failed_of, inner_of};
-ghost use Rattle.graph_commands.specs.watched_io.declared.fault.IoFault.TheVariants as io_fault;
-ghost use Rattle.stream_job.specs.stream_lists.Lists.{sinks_of};
+ghost use Rattle.watched_io.specs.States.{writer_state};
+ghost use Rattle.watched_io.specs.Watched.{has_failed_of, inner_of};
+ghost use Rattle.watched_io.specs.declared.fault.IoFault.TheVariants as io_fault;
+ghost use Rattle.stream_lists.specs.Lists.{sinks_of};
 ghost use Rattle.phase_words.specs.StreamLine.{stream_asked};
 ghost use Rattle.phase_stream.specs.Sessions.{IsKnownAs, IsSameSession, IsStreamAtOpening};
 ghost use Rattle.phase_stream.specs.TableLines.{ColumnsEndBy, TableStands, TableStopped, goes_on};
@@ -17,20 +17,21 @@ use crate::session::{Session, forget_all};
 use crate::source::{Lack, Room};
 use crate::streamed::{read_stream, too_big};
 use crate::table::Table;
+use crate::wanted::{tell_awaited, with_wanted};
 use graph_commands::Failure;
-use graph_commands::watched_io::{Explain, IoFault, Watched};
+use graph_runs::outcomes;
 use phase_words::StreamCall;
 use std::alloc::Global;
 use std::io::{Read, Write};
-use stream_job::graph_runs::outcomes;
 use stream_job::{Stopped, Stream};
+use watched_io::{Explain, IoFault, Watched};
 
 /// Reads the graph of a file, and then the samples of its sources as they come, and writes the
 /// values of all sinks as the columns of a table: a line as soon as each of them has its value
 /// there, or has ended.
 ///
-/// It reads and goes on as `stream` does. What waits of a sink for the values of others is kept in
-/// memory.
+/// It reads and goes on as `stream` does, but reads no source whose values come to a sink of which
+/// `WAITING_MAX` wait for those of others: where all hungry ones do, that is a read fault.
 pub fn stream_table<'a, W: Write, F: Opens>(
     alloc: Global,
     call: &StreamCall<'a>,
@@ -83,7 +84,7 @@ fn begin<'a, W: Write, F: Opens>(
 }
 
 /// Goes on until no task can move, takes over what the sinks have, and writes each line that is
-/// known then.
+/// known then. A hungry source is the one that is read next.
 fn turn<R: Read + Drop, W: Write>(
     alloc: Global,
     session: &mut Session<R>,
@@ -113,7 +114,7 @@ fn turn<R: Read + Drop, W: Write>(
     forget_all(&mut session.stream);
     end(table, stop);
     match table.write(alloc, output) {
-        Ok(()) => Ok(stop),
+        Ok(()) => Ok(with_wanted(session, table, stop)),
         Err(fault) => Err(fault),
     }
 }
@@ -170,6 +171,7 @@ fn go<'a, W: Write, F: Opens>(
             Stopped::Hungry { source } => {
                 session.close_left();
                 if let Err(lack) = session.refill(alloc, files, &mut room, source, explain) {
+                    tell_awaited(alloc, &session, &table, source, files);
                     return Err(session.lacking(alloc, source, lack));
                 }
             }

@@ -1,27 +1,31 @@
 //! The sinks of a stream as the columns of a table, of which a line is written as soon as each of
 //! them has its value there, or has ended.
-ghost use Rattle.std.specs.Prelude.{◌≡◌, ◌++◌, [], ℕ, ℤ, Bool, List, IfOk, OnErr, OnOk, IsErrOf, map, true, false};
+ghost use Rattle.std.specs.Prelude.{◌≡◌, ◌<◌, ◌++◌, [], ℕ, ℤ, Bool, List, Some, IfOk, OnErr, OnOk, IsErrOf, length, map, slice_get, true, false};
 ghost use Rattle.std.specs.List.{list_all, list_any};
 ghost use Rattle.std.specs.Io.KnownBytes.{Appends};
 ghost use Rattle.graph_commands.specs.ColumnTexts.{comma_before, value_cell};
-ghost use Rattle.graph_commands.specs.watched_io.Prefix.{AppendsPrefix};
-ghost use Rattle.graph_commands.specs.watched_io.Watched.{has_failed_of, inner_of};
-ghost use Rattle.graph_commands.specs.watched_io.declared.fault.IoFault.TheVariants as io_fault;
+ghost use Rattle.watched_io.specs.Prefix.{AppendsPrefix};
+ghost use Rattle.watched_io.specs.Watched.{has_failed_of, inner_of};
+ghost use Rattle.watched_io.specs.declared.fault.IoFault.TheVariants as io_fault;
 ghost use Rattle.stream_job.specs.SinkLines.{kept_by};
 ghost use Rattle.stream_job.specs.Streams.{IsStreamAt, ended_at};
-ghost use Rattle.stream_job.specs.graph_runs.Moments.{Moment};
-ghost use Rattle.stream_job.specs.stream_lists.Jobs.{Job as JobValue};
-ghost use Rattle.stream_job.specs.stream_lists.Lists.{sinks_of};
-ghost use Rattle.phase_stream.specs.Columns.{HasNoMore, HasPassedLine, has_value, is_known};
+ghost use Rattle.graph_runs.specs.Moments.{Moment};
+ghost use Rattle.stream_lists.specs.Jobs.{Job as JobValue};
+ghost use Rattle.stream_lists.specs.Lists.{sinks_of};
+ghost use Rattle.phase_stream.specs.Columns.{HasNoMore, HasPassedLine, NeverComes, has_value, is_known};
 ghost use Rattle.phase_stream.specs.TableLines.{AreNewColumns, EachGoes, Shows, ShowsMore, View, WritesTableLines, WritesSomeLines, by_number, has_line, have_left, names_line, next_line};
+ghost use Rattle.phase_stream.specs.declared.column.Column.{Column as ColumnValue};
 
 use crate::column::Column;
-use graph_commands::watched_io::{CHUNK_MAX, IoFault, Watched};
+use graph_base::Place;
 use itoa::Buffer;
 use std::alloc::{AllocError, Global};
 use std::io::Write;
-use stream_job::graph_base::Place;
 use stream_job::{Job, Stream};
+use watched_io::{CHUNK_MAX, IoFault, Watched};
+
+/// How many values of a sink wait for those of others before nothing more is read that comes to it.
+pub const WAITING_MAX: usize = 65_536;
 
 /// A table of which some lines were written.
 #[derive(Drop)]
@@ -59,7 +63,48 @@ impl Table {
         for number in 0..self.columns.len() {
             self.columns[number].take(stream, number)?;
         }
+        self.leave_absent(stream.job());
         Ok(())
+    }
+
+    /// Keeps of each sink that it gets no values where its parent, a sink too, has left before it
+    /// came.
+    fn leave_absent(&mut self, job: &Job)
+        requires { map (λ column. column.task) self.old.columns.items ≡ sinks_of job.now }
+        ensures shows { (ended : ℕ → Bool) (going : Bool) (s : List (List ℤ)) (m : Moment)
+            (given : ℕ → List ℤ) (view : View)
+            → Shows job.now ended going s m given self.old.columns.items view
+            → Shows job.now ended going s m given self.new.columns.items view }
+        ensures tasks { map (λ column. column.task) self.new.columns.items
+            ≡ map (λ column. column.task) self.old.columns.items }
+    {
+        for number in 0..self.columns.len() {
+            if self.never_comes(job, number) {
+                self.columns[number].has_left = true;
+            }
+        }
+    }
+
+    /// Whether a sink's parent, a sink too, has left before it came.
+    fn never_comes(&self, job: &Job, number: usize) -> bool
+        requires { number < length self.now.columns.items }
+        ensures { result ≡ true → (column : ColumnValue)
+            → slice_get self.now.columns.items number ≡ Some column
+            → NeverComes job.now self.now.columns.items column }
+    {
+        let column = &self.columns[number];
+        if !column.has_start || column.has_left || column.task >= job.graph().tasks() {
+            return false;
+        }
+        let Some(parent) = job.graph().task(column.task).parent else {
+            return false;
+        };
+        for other in &self.columns {
+            if other.task == parent.task && other.has_left && other.count < parent.at {
+                return true;
+            }
+        }
+        false
     }
 
     /// Keeps that no sink gets more values.
@@ -77,6 +122,11 @@ impl Table {
         ensures { result ≡ have_left self.now.columns.items }
     {
         self.columns.iter().all(|column| column.has_left)
+    }
+
+    /// Whether as many values of some sink wait as may.
+    pub fn is_full(&self) -> bool {
+        self.columns.iter().any(|column| column.is_full())
     }
 
     /// Whether some value waits for its line.

@@ -219,8 +219,11 @@ as `phase eval --columns` writes them.
 
 The file of a source may be a pipe, and - is standard input, for one source. It
 is opened when the graph waits for its first sample. There is no limit on how
-many samples come, and memory does not grow with them, but for the values of a
-table that wait for those of slower sinks.
+many samples come, and memory does not grow with them. Of a table some 65,536
+values of a sink wait for those of slower ones, and then no more is read.
+
+Control-C ends it, and leaves all values of the samples that came, in whole
+lines.
 
 Files are opened from the current folder, by their names as they are written,
 and with --beside those of the sources in the folder of the graph.
@@ -228,5 +231,5 @@ and with --beside those of the sources in the folder of the graph.
 Exit status: 0 done; 1 the graph or its samples are refused, no sink has the
 name, or none is named of several; 2 the words were not understood; 3 a value is
 out of range; 4 every task that was left waited for another; 5 a read or a write
-failed, a file could not be made or is that of a source, or memory ran out. The
-values before a fault are written.";
+failed, a file could not be made, or is read or written already, or memory ran
+out. The values before a fault are written.";

@@ -1,7 +1,7 @@
 //! How long the longest line is that is read, and the longest reply.
-use phase_replay::phase_accum::Outcome;
-use phase_replay::phase_script::{LINE_MAX, REPLY_MAX, VALUES_MAX};
+use phase_accum::Outcome;
 use phase_replay::{Outcomes, Reply, ReplyLine};
+use phase_script::{LINE_MAX, REPLY_MAX, VALUES_MAX};
 use std::alloc::Global;
 use std::test::Fail;
 

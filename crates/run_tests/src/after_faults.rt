@@ -1,11 +1,11 @@
 //! What a run answers where a worker met a value out of range: what `eval` answers, also `Ok`.
 use crate::jobs::job_of;
+use graph_base::Place;
 use std::alloc::Global;
 use std::test::Fail;
 use stream_job::Lines;
-use stream_job::graph_base::Place;
-use stream_workers::worker_pool::Fault;
 use stream_workers::{RunFault, after_fault};
+use worker_pool::Fault;
 
 /// Two sources, a sink that takes no value, and one that joins it now and takes one.
 const GRAPH: &str = "graph 2\nphaser X sum 8\nsource a a.csv -> X\nsource b b.csv -> X\n\

@@ -1,10 +1,10 @@
 //! Where tasks meet on a phaser with `any`. What is expected was worked out by hand.
 ghost use Rattle.std.specs.Prelude.{◌≡◌, ◌≤◌, length, IfOk};
 
+use graph_lang::read_graph;
 use std::alloc::{AllocError, Global};
 use std::test::Fail;
-use stream_job::graph_lang::read_graph;
-use stream_workers::graph_commands::stream_lists::{Meeting, meeting_on};
+use stream_lists::{Meeting, meeting_on};
 
 /// On X each begins where A does, or so many phases behind: A at 0, B at 2 and C at 1. D and E are
 /// alone on a phaser that adds up.

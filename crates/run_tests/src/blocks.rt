@@ -1,11 +1,11 @@
 //! Blocks that members put and get, and a child that joins now.
+use phase_accum::{NO_VALUE, Outcome};
+use phase_base::{Mode, Op, Spec};
+use phase_core::{GotBlock, SignalRefusal};
 use std::alloc::Global;
 use std::sync::Wait;
 use std::test::Fail;
-use stream_job::phase_accum::{NO_VALUE, Outcome};
-use stream_job::phase_base::{Mode, Op, Spec};
-use stream_job::phase_core::{GotBlock, SignalRefusal};
-use stream_workers::stream_members::{AnyMember, AnyPhaser, Places, PutRefusal};
+use stream_members::{AnyMember, AnyPhaser, Places, PutRefusal};
 
 // What two waits for at most four phases are answered and write, the first of a parent and the
 // second of the child that it registered now, with the phase that the child joins at.

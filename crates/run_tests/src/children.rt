@@ -10,7 +10,7 @@ const RUNS: u32 = 10;
 pub const SECOND_FILTER: &str = "phaser X sum 4\nphaser Y sum 4\nsource s s.csv -> X\n\
     fir f X -> Y shift 0 taps 1 1\nfir g X -> Y shift 0 taps 1 1 by f at 2 until 1\nsink out Y\n";
 
-const CASES: [Case; 10] = [
+static CASES: [Case; 10] = [
     Case {
         name: "a child joins where its parent is",
         graph: "phaser X sum 4\nsource s s.csv -> X\nsink out X\n\

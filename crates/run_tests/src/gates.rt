@@ -149,7 +149,7 @@ struct Held {
     wanted: &'static str,
 }
 
-const HELD: [Held; 2] = [
+static HELD: [Held; 2] = [
     Held {
         name: "a filter is held",
         graph: FIR,
@@ -254,7 +254,7 @@ struct Entries {
 // A source enters a step for each sample. Another task enters one more than it makes, in which it
 // is told that no value comes, unless `until` ends it before. A step is entered once, also where it
 // waits twice, and where the task is refused and comes again; and a block once, with its first.
-const ENTRIES: [Entries; 8] = [
+static ENTRIES: [Entries; 8] = [
     // The source enters 0, 3 and 6, and the sink also 7.
     Entries {
         name: "blocks of three",

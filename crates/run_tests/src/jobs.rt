@@ -1,9 +1,9 @@
 //! Jobs of graphs that are given as text, and what their runs end with, as text.
+use graph_base::{Graph, Place};
 use std::alloc::{AllocError, Global};
 use std::sync::Wait;
 use std::test::Fail;
 use std::thread::Threads;
-use stream_job::graph_base::{Graph, Place};
 use stream_job::{Job, Lines};
 use stream_workers::{Gate, RunFault, run};
 

@@ -1,15 +1,15 @@
 //! Members that meet under each of the operations, come and go.
 ghost use Rattle.std.specs.Prelude.{◌≡◌};
-ghost use Rattle.stream_workers.specs.stream_members.AnyMembers.{left_in, left_op, member_in, member_op};
+ghost use Rattle.stream_members.specs.AnyMembers.{left_in, left_op, member_in, member_op};
 
+use phase_accum::{Outcome, Single};
+use phase_base::{Mode, Op, Spec};
+use phase_core::{GotBlock, WaitRefusal};
+use phase_shared::Tried;
 use std::alloc::Global;
 use std::sync::Wait;
 use std::test::Fail;
-use stream_job::phase_accum::{Outcome, Single};
-use stream_job::phase_base::{Mode, Op, Spec};
-use stream_job::phase_core::{GotBlock, WaitRefusal};
-use stream_workers::phase_shared::Tried;
-use stream_workers::stream_members::{AnyLeft, AnyMember, AnyPhaser};
+use stream_members::{AnyLeft, AnyMember, AnyPhaser};
 
 // What is got of the first phase, where its value is this.
 fn first(value: i64) -> Option<(GotBlock, Outcome)> {

@@ -5,7 +5,7 @@ use std::alloc::Global;
 use std::sync::Wait;
 use std::test::Fail;
 use std::thread::Threads;
-use stream_workers::worker_pool::{Fault, Pool};
+use worker_pool::{Fault, Pool};
 
 /// Tasks that meet at a first place of this number and bound, by each number of workers: how their
 /// run ends, and how many were taken at that place.
@@ -19,7 +19,7 @@ struct Case {
     taken: u64,
 }
 
-const CASES: [Case; 16] = [
+static CASES: [Case; 16] = [
     Case {
         name: "a chain of bound 1 is done",
         number: 7,

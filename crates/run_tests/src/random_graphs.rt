@@ -7,7 +7,7 @@ use stream_workers::Open;
 
 /// Graphs, the samples of their sources, with a semicolon between two, and what their runs end
 /// with.
-const GRAPHS: [(&str, &str, &str); 20] = [
+static GRAPHS: [(&str, &str, &str); 20] = [
     // seed 14
     (
         "phaser X0 sum 3\nphaser X1 sum 4\nphaser X2 sum 2\nsource t0 f0 -> X0\n\

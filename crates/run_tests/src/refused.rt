@@ -1,11 +1,11 @@
 //! What a member's mode does not hold, and a single that differs.
+use phase_accum::{Outcome, Single, Sum};
+use phase_base::{Mode, Op, Spec};
+use phase_core::{RegisterRefusal, SignalRefusal, WaitRefusal};
+use phase_shared::{NoRule, Phaser, Tried};
 use std::sync::Wait;
 use std::test::Fail;
-use stream_job::phase_accum::{Outcome, Single, Sum};
-use stream_job::phase_base::{Mode, Op, Spec};
-use stream_job::phase_core::{RegisterRefusal, SignalRefusal, WaitRefusal};
-use stream_workers::phase_shared::{NoRule, Phaser, Tried};
-use stream_workers::stream_members::{AnyMember, AnyPhaser, Member, PutRefusal};
+use stream_members::{AnyMember, AnyPhaser, Member, PutRefusal};
 
 // Why a member can't put or register what its mode does not hold, where neither is done.
 fn refusals<R: Wait>(rt: &R, member: &mut AnyMember<'_>) -> Option<(PutRefusal, RegisterRefusal)> {

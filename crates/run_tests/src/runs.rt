@@ -40,7 +40,7 @@ const ROOM_FOR_ONE: &str = "phaser X sum 4\nphaser Y sum 2\nphaser Z sum 2\nphas
     phaser W sum 9\nsource s s.csv -> X\nfir f X -> Y shift 0 taps 1\nsplit e Y -> Z V\n\
     join j Y Z -> W\nsink w W\n";
 
-const CASES: [Case; 30] = [
+static CASES: [Case; 30] = [
     Case {
         name: "a filter",
         graph: "phaser X sum 4\nphaser Y sum 4\nsource s s.csv -> X\n\

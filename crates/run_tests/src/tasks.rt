@@ -3,7 +3,7 @@ use crate::toys::{Place, Toy};
 use std::alloc::Global;
 use std::sync::Wait;
 use std::thread::Threads;
-use stream_workers::worker_pool::{Fault, Pool};
+use worker_pool::{Fault, Pool};
 
 /// The places at which the tasks of a pool meet.
 #[derive(Drop)]

@@ -2,7 +2,7 @@
 use std::sync::atomic::AtomicU64;
 use std::sync::atomic::Ordering::SeqCst;
 use std::thread;
-use stream_workers::worker_pool::{Fault, Progress, Work};
+use worker_pool::{Fault, Progress, Work};
 
 // How often a task that is held looks whether it may go on.
 const LOOKS: u32 = 100_000;

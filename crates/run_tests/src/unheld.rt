@@ -1,12 +1,12 @@
 //! A value that is refused is not held: another may be put next.
+use phase_accum::{NO_VALUE, Outcome};
+use phase_base::{Mode, Op, Spec};
+use phase_core::{GotBlock, SignalRefusal, WaitRefusal};
+use phase_shared::Tried;
 use std::alloc::Global;
 use std::sync::Wait;
 use std::test::Fail;
-use stream_job::phase_accum::{NO_VALUE, Outcome};
-use stream_job::phase_base::{Mode, Op, Spec};
-use stream_job::phase_core::{GotBlock, SignalRefusal, WaitRefusal};
-use stream_workers::phase_shared::Tried;
-use stream_workers::stream_members::{AnyMember, AnyPhaser, PutRefusal};
+use stream_members::{AnyMember, AnyPhaser, PutRefusal};
 
 const AHEAD: PutRefusal = PutRefusal::Refused(SignalRefusal::Ahead);
 

@@ -2,7 +2,7 @@
 use Rattle.std.proofs.Common.{◌≡◌, ◌+◌, ℕ, ℤ, List, [], ◌∷◌, ◌++◌, length, map, refl, sym, ap, subst, ◌∙◌, append_assoc}
 use Rattle.csv.specs.Reading.{strip_bom, default_config, Reached}
 use Rattle.csv.specs.declared.parser.State.TheVariants as st
-use Rattle.graph_lang.specs.phase_accum.Sends.{IsSend, AreSends}
+use Rattle.phase_accum.specs.Sends.{IsSend, AreSends}
 use Rattle.graph_lang.specs.Samples.{row_of, IsBadSample}
 use Rattle.sample_pieces.specs.Pieces.{IsMarked, IsBadFrom}
 use Rattle.sample_pieces.specs.Scans.{Scan, nothing_read, scan_on, rows_at_end}

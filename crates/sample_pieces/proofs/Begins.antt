@@ -8,7 +8,7 @@ use Rattle.csv.specs.Machine.{Read, next_record}
 use Rattle.csv.specs.Reading.{strip_bom, default_config, Reached, AreRecords}
 use Rattle.csv.specs.declared.parser.State.{State}
 use Rattle.csv.specs.declared.parser.State.TheVariants as st
-use Rattle.graph_lang.specs.phase_accum.Sends.{AreSends}
+use Rattle.phase_accum.specs.Sends.{AreSends}
 use Rattle.graph_lang.specs.Samples.{row_of, AreRecordsOfValues}
 use Rattle.graph_lang.proofs.Unique.{small_mag}
 use Rattle.sample_pieces.specs.Pieces.{HasRead}

@@ -7,4 +7,3 @@ mod Reading
 mod Rows
 mod Scanned
 mod Widths
-pub use Rattle.graph_lang.proofs as graph_lang_lemmas

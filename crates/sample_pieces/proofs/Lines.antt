@@ -8,7 +8,7 @@ use Rattle.csv.specs.declared.parser.Action.{Action}
 use Rattle.csv.specs.declared.parser.Action.TheVariants as act
 use Rattle.csv.specs.declared.parser.State.{State}
 use Rattle.csv.specs.declared.parser.State.TheVariants as st
-use Rattle.graph_lang.specs.phase_accum.Sends.{IsSend}
+use Rattle.phase_accum.specs.Sends.{IsSend}
 use Rattle.graph_lang.specs.Samples.{row_of}
 use Rattle.graph_lang.proofs.PlainLines.{IsWord, joins, starts, value-word}
 use Rattle.sample_pieces.specs.Pieces.{HasRead, IsMarked}

@@ -6,7 +6,7 @@ use Rattle.csv.specs.Reading.{strip_bom, default_config}
 use Rattle.csv.specs.declared.parser.Action.{Action}
 use Rattle.csv.specs.declared.parser.State.{State}
 use Rattle.std.specs.Fmt.{signed_decimal}
-use Rattle.graph_lang.specs.phase_accum.Sends.{IsSend, AreSends}
+use Rattle.phase_accum.specs.Sends.{IsSend, AreSends}
 use Rattle.graph_lang.specs.Samples.{row_of}
 use Rattle.sample_pieces.specs.Pieces.{HasRead, IsMarked, IsBadFrom, EndsMark, FindsField, IsField, Copies, csv_state, done_by, Finds}
 use Rattle.sample_pieces.specs.Scans.{Scan, nothing_read, scanned, scan_on}

@@ -8,7 +8,7 @@ use Rattle.csv.specs.declared.parser.Action.TheVariants as act
 use Rattle.csv.specs.declared.parser.State.{State}
 use Rattle.csv.specs.declared.parser.State.TheVariants as st
 use Rattle.std.specs.Fmt.{signed_decimal}
-use Rattle.graph_lang.specs.phase_accum.Sends.{IsSend}
+use Rattle.phase_accum.specs.Sends.{IsSend}
 use Rattle.graph_lang.specs.Samples.{row_of}
 use Rattle.sample_pieces.specs.Scans.{Scan, scanned, scan_on, rows_at_end, last_rows}
 use Rattle.sample_pieces.proofs.Scanned.{Rows}

@@ -6,7 +6,7 @@ use Rattle.csv.specs.declared.parser.State.{State}
 use Rattle.csv.specs.declared.parser.State.TheVariants as st
 use Rattle.csv.specs.Reading.{strip_bom}
 use Rattle.std.specs.Fmt.{signed_decimal}
-use Rattle.graph_lang.specs.phase_accum.Sends.{IsSend, AreSends}
+use Rattle.phase_accum.specs.Sends.{IsSend, AreSends}
 use Rattle.graph_lang.specs.Samples.{row_of, AreRecordsOfValues, IsBadSample}
 use Rattle.sample_pieces.specs.Scans.{nothing_read, scan_on}
 use Rattle.sample_pieces.specs.declared.step.Where.{Where}

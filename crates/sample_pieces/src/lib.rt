@@ -9,5 +9,4 @@ mod plain;
 mod reader;
 mod step;
 
-pub use graph_lang;
 pub use reader::{Found, SampleReader, Taken};

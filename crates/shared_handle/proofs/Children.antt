@@ -1,8 +1,8 @@
 -- What C is told of a child, by what its registration answered.
 use Rattle.std.proofs.Common.{◌≡◌, ℕ, ℤ, Option, Some, sym, subst}
 use Rattle.std.specs.Prelude.{Result, Ok, Err, IfOk, OnErr}
-use Rattle.phase_shared.specs.phase_base.declared.operation.Op.{Op}
-use Rattle.phase_shared.specs.phase_history.declared.refusal.RegisterRefusal.{RegisterRefusal}
+use Rattle.phase_base.specs.declared.operation.Op.{Op}
+use Rattle.phase_history.specs.declared.refusal.RegisterRefusal.{RegisterRefusal}
 use Rattle.phase_shared.specs.declared.tried.Tried.{Tried}
 use Rattle.handle_numbers.specs.declared.numbers.TheConstants.{GOOD}
 use Rattle.shared_handle.specs.Members.{Registration}

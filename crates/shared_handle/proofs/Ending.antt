@@ -1,16 +1,16 @@
 -- What ends an ask is a next phase of its member.
 use Rattle.std.proofs.Common.{◌≡◌, ℕ, ℤ, Bool, true, false, List, Option, Some, None, unwrap_or, refl, ap, ◌∙◌}
 use Rattle.std.specs.Prelude.{Result, Ok, Err}
-use Rattle.phase_shared.specs.phase_base.Limits.{Limits}
-use Rattle.phase_shared.specs.phase_accum.declared.outcome.Outcome.{Outcome}
-use Rattle.phase_shared.specs.phase_base.Modes.{mode_signals, mode_waits}
-use Rattle.phase_shared.specs.phase_base.declared.entry.Entry.{Entry}
-use Rattle.phase_shared.specs.phase_accum.Operations.{Operation, AccumulateLaws}
-use Rattle.phase_shared.specs.phase_accum.Parcels.{StandsForSends}
-use Rattle.phase_shared.specs.phase_history.declared.got.Got.{Got}
-use Rattle.phase_shared.specs.phase_history.declared.refusal.SignalRefusal.{SignalRefusal}
-use Rattle.phase_shared.specs.phase_history.declared.refusal.SignalRefusal.TheVariants.{NoTask}
-use Rattle.phase_shared.specs.phase_history.Histories.{History}
+use Rattle.phase_base.specs.Limits.{Limits}
+use Rattle.phase_accum.specs.declared.outcome.Outcome.{Outcome}
+use Rattle.phase_base.specs.Modes.{mode_signals, mode_waits}
+use Rattle.phase_base.specs.declared.entry.Entry.{Entry}
+use Rattle.phase_accum.specs.Operations.{Operation, AccumulateLaws}
+use Rattle.phase_accum.specs.Parcels.{StandsForSends}
+use Rattle.phase_history.specs.declared.got.Got.{Got}
+use Rattle.phase_history.specs.declared.refusal.SignalRefusal.{SignalRefusal}
+use Rattle.phase_history.specs.declared.refusal.SignalRefusal.TheVariants.{NoTask}
+use Rattle.phase_history.specs.Histories.{History}
 use Rattle.phase_shared.specs.Asked.{IsGone, IsTakenBack}
 use Rattle.phase_shared.specs.Calls.{IsCall, IsTry, Tries, Signals, SignalsAndMayWait, MayWait, Waits, tried}
 use Rattle.phase_shared.specs.Entries.{entry_after_both, entry_after_next}

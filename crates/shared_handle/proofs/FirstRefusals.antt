@@ -1,7 +1,7 @@
 -- Which refusal of what a signal names comes first.
 use Rattle.std.proofs.Common.{◌≡◌, ◌<◌, ◌≤◌, ℕ, ℤ, List, inl, inr, length, refl, sym, subst, w32, to_z, of_z, arith}
-use Rattle.phase_shared.specs.phase_base.declared.limits.TheConstants.{SENDS_MAX}
-use Rattle.phase_shared.specs.phase_accum.Sends.{AreSends}
+use Rattle.phase_base.specs.declared.limits.TheConstants.{SENDS_MAX}
+use Rattle.phase_accum.specs.Sends.{AreSends}
 use Rattle.handle_numbers.specs.declared.numbers.TheConstants.{BAD_SINGLE, BAD_VALUE, TOO_MANY_SENDS}
 use Rattle.shared_handle.specs.Told.{NamesNone, NamesOne, IsBadBlock, IsBadSignal}
 

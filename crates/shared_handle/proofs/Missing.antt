@@ -1,10 +1,10 @@
 -- How a phaser stands, and who is missing, as one answer.
 use Rattle.std.proofs.Common.{◌≡◌, ℕ, List}
 use Rattle.std.specs.Prelude.{Result, Ok, Err, OnOk, OnErr}
-use Rattle.phase_shared.specs.phase_history.declared.refusal.NoTask.{NoTask}
-use Rattle.phase_shared.specs.phase_history.Histories.{History}
-use Rattle.phase_shared.specs.phase_core.Standings.{missing_of, put_over}
-use Rattle.phase_shared.specs.phase_core.declared.standing.Standing.{Standing}
+use Rattle.phase_history.specs.declared.refusal.NoTask.{NoTask}
+use Rattle.phase_history.specs.Histories.{History}
+use Rattle.phase_core.specs.Standings.{missing_of, put_over}
+use Rattle.phase_core.specs.declared.standing.Standing.{Standing}
 use Rattle.phase_shared.specs.declared.rule.Terms.{Terms}
 use Rattle.phase_shared.specs.declared.tried.Tried.{Tried}
 use Rattle.phase_shared.specs.declared.tried.Tried.TheVariants.{Busy, Refused}

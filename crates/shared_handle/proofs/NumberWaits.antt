@@ -1,19 +1,19 @@
 -- Waits for blocks, whose values are written as numbers.
 use Rattle.std.proofs.Common.{◌≡◌, ℕ, ℤ, List, ◌++◌, length, map, take, drop, sym, ◌∙◌}
 use Rattle.std.specs.Prelude.{Result, Ok, Err}
-use Rattle.phase_shared.specs.phase_base.Limits.{Limits, AreLimits}
-use Rattle.phase_shared.specs.phase_accum.declared.outcome.Outcome.{Outcome}
-use Rattle.phase_shared.specs.phase_history.declared.got.GotBlock.{GotBlock}
-use Rattle.phase_shared.specs.phase_history.declared.got.GotBlock.TheVariants as block
-use Rattle.phase_shared.specs.phase_history.declared.refusal.WaitRefusal.{WaitRefusal}
-use Rattle.phase_shared.specs.phase_history.Histories.{History}
-use Rattle.phase_shared.specs.phase_history.Phases.{stream_of}
-use Rattle.phase_shared.specs.phase_history.Replies.{wait_block_reply}
+use Rattle.phase_base.specs.Limits.{Limits, AreLimits}
+use Rattle.phase_accum.specs.declared.outcome.Outcome.{Outcome}
+use Rattle.phase_history.specs.declared.got.GotBlock.{GotBlock}
+use Rattle.phase_history.specs.declared.got.GotBlock.TheVariants as block
+use Rattle.phase_history.specs.declared.refusal.WaitRefusal.{WaitRefusal}
+use Rattle.phase_history.specs.Histories.{History}
+use Rattle.phase_history.specs.Phases.{stream_of}
+use Rattle.phase_history.specs.Replies.{wait_block_reply}
 use Rattle.phase_shared.specs.declared.tried.Tried.{Tried}
 use Rattle.phase_shared.specs.declared.tried.Tried.TheVariants.{Busy, Refused}
 use Rattle.phase_shared.specs.Blocks.{WaitsBlock}
 use Rattle.phase_shared.specs.Calls.{Tries}
-use Rattle.phase_shared.proofs.phase_history_lemmas.Standstill.{limits_of}
+use Rattle.phase_history.proofs.Standstill.{limits_of}
 use Rattle.handle_numbers.specs.Blocks.{numbers_after}
 use Rattle.handle_numbers.specs.Numbers.{value_number}
 use Rattle.handle_numbers.proofs.BlockWaits.{got_of, numbers-got}

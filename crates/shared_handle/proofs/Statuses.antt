@@ -2,18 +2,18 @@
 -- written.
 use Rattle.std.proofs.Common.{◌≡◌, ◌≢◌, ℕ, ℤ, List, Option, Some, None, refl, ap, ◌∙◌, w32, to_z, of_z}
 use Rattle.std.specs.Prelude.{Result, Ok, Err, OnErr}
-use Rattle.phase_shared.specs.phase_history.declared.got.Got.{Got}
-use Rattle.phase_shared.specs.phase_history.declared.got.Got.TheVariants as got
-use Rattle.phase_shared.specs.phase_history.declared.got.GotBlock.{GotBlock}
-use Rattle.phase_shared.specs.phase_history.declared.got.GotBlock.TheVariants as block
-use Rattle.phase_shared.specs.phase_history.declared.refusal.RegisterRefusal.{RegisterRefusal}
-use Rattle.phase_shared.specs.phase_history.declared.refusal.RegisterRefusal.TheVariants as register
-use Rattle.phase_shared.specs.phase_history.declared.refusal.SignalRefusal.{SignalRefusal}
-use Rattle.phase_shared.specs.phase_history.declared.refusal.SignalRefusal.TheVariants as signal
-use Rattle.phase_shared.specs.phase_history.declared.refusal.WaitRefusal.{WaitRefusal}
-use Rattle.phase_shared.specs.phase_history.declared.refusal.WaitRefusal.TheVariants as wait
-use Rattle.phase_shared.specs.phase_history.declared.refusal.NoTask.{NoTask}
-use Rattle.phase_shared.specs.phase_core.declared.standing.Standing.{Standing}
+use Rattle.phase_history.specs.declared.got.Got.{Got}
+use Rattle.phase_history.specs.declared.got.Got.TheVariants as got
+use Rattle.phase_history.specs.declared.got.GotBlock.{GotBlock}
+use Rattle.phase_history.specs.declared.got.GotBlock.TheVariants as block
+use Rattle.phase_history.specs.declared.refusal.RegisterRefusal.{RegisterRefusal}
+use Rattle.phase_history.specs.declared.refusal.RegisterRefusal.TheVariants as register
+use Rattle.phase_history.specs.declared.refusal.SignalRefusal.{SignalRefusal}
+use Rattle.phase_history.specs.declared.refusal.SignalRefusal.TheVariants as signal
+use Rattle.phase_history.specs.declared.refusal.WaitRefusal.{WaitRefusal}
+use Rattle.phase_history.specs.declared.refusal.WaitRefusal.TheVariants as wait
+use Rattle.phase_history.specs.declared.refusal.NoTask.{NoTask}
+use Rattle.phase_core.specs.declared.standing.Standing.{Standing}
 use Rattle.phase_shared.specs.declared.tried.Tried.{Tried}
 use Rattle.phase_shared.specs.declared.tried.Tried.TheVariants.{Busy, Refused}
 use Rattle.handle_numbers.specs.Numbers.{signal_number, wait_number, signal_status, wait_status, wait_block_status, phase_or}

@@ -1,18 +1,18 @@
 -- What tries of a registration are as tries of a member.
 use Rattle.std.proofs.Common.{◌≡◌, ℕ, ℤ, List, [], ◌∷◌, ◌++◌, Option, Some, true, length, refl, sym, ap, subst, ◌∙◌, arith, length-append}
 use Rattle.std.specs.Prelude.{Result, Ok, Err}
-use Rattle.phase_shared.specs.phase_base.Limits.{Limits}
-use Rattle.phase_shared.specs.phase_base.Members.{entry_of}
-use Rattle.phase_shared.specs.phase_base.declared.entry.Entry.{Entry}
-use Rattle.phase_shared.specs.phase_accum.Operations.{Operation, AccumulateLaws, IsPartOf, part}
-use Rattle.phase_shared.specs.phase_accum.Parcels.{Parcel, StandsForSends}
-use Rattle.phase_shared.specs.phase_accum.declared.single.Single.{Single}
-use Rattle.phase_shared.proofs.phase_history_lemmas.phase_accum_lemmas.Parts.{IsPartOf-part, IsPartOf-join, value-same}
-use Rattle.phase_shared.specs.phase_history.declared.got.Got.{Got}
-use Rattle.phase_shared.specs.phase_history.declared.refusal.SignalRefusal.{SignalRefusal}
-use Rattle.phase_shared.specs.phase_history.Histories.{History, members_of}
-use Rattle.phase_shared.specs.phase_history.Legal.{IsLegal}
-use Rattle.phase_shared.specs.phase_history.Replies.{signal_reply}
+use Rattle.phase_base.specs.Limits.{Limits}
+use Rattle.phase_base.specs.Members.{entry_of}
+use Rattle.phase_base.specs.declared.entry.Entry.{Entry}
+use Rattle.phase_accum.specs.Operations.{Operation, AccumulateLaws, IsPartOf, part}
+use Rattle.phase_accum.specs.Parcels.{Parcel, StandsForSends}
+use Rattle.phase_accum.specs.declared.single.Single.{Single}
+use Rattle.phase_accum.proofs.Parts.{IsPartOf-part, IsPartOf-join, value-same}
+use Rattle.phase_history.specs.declared.got.Got.{Got}
+use Rattle.phase_history.specs.declared.refusal.SignalRefusal.{SignalRefusal}
+use Rattle.phase_history.specs.Histories.{History, members_of}
+use Rattle.phase_history.specs.Legal.{IsLegal}
+use Rattle.phase_history.specs.Replies.{signal_reply}
 use Rattle.phase_shared.specs.declared.phaser.Phaser.{Phaser}
 use Rattle.phase_shared.specs.declared.rule.Unwoken.{Unwoken}
 use Rattle.phase_shared.specs.declared.tried.Tried.{Tried}

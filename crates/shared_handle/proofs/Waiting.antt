@@ -1,13 +1,13 @@
 -- What waits answer.
 use Rattle.std.proofs.Common.{◌≡◌, ℕ, ◌≤◌, ℤ, List, Result, Ok, length, sym, subst}
 use Rattle.std.proofs.Math.Nat.{min-le_left}
-use Rattle.phase_shared.specs.phase_base.Limits.{Limits}
-use Rattle.phase_shared.specs.phase_accum.declared.outcome.Outcome.{Outcome}
-use Rattle.phase_shared.specs.phase_history.declared.got.GotBlock.{GotBlock}
-use Rattle.phase_shared.specs.phase_history.declared.got.GotBlock.TheVariants as block
-use Rattle.phase_shared.specs.phase_history.declared.refusal.WaitRefusal.{WaitRefusal}
-use Rattle.phase_shared.specs.phase_history.Histories.{History}
-use Rattle.phase_shared.proofs.phase_history_lemmas.BlockAnswers.{block_answers_law}
+use Rattle.phase_base.specs.Limits.{Limits}
+use Rattle.phase_accum.specs.declared.outcome.Outcome.{Outcome}
+use Rattle.phase_history.specs.declared.got.GotBlock.{GotBlock}
+use Rattle.phase_history.specs.declared.got.GotBlock.TheVariants as block
+use Rattle.phase_history.specs.declared.refusal.WaitRefusal.{WaitRefusal}
+use Rattle.phase_history.specs.Histories.{History}
+use Rattle.phase_history.proofs.BlockAnswers.{block_answers_law}
 use Rattle.phase_shared.specs.declared.tried.Tried.{Tried}
 use Rattle.phase_shared.specs.Blocks.{WaitsBlock}
 use Rattle.phase_shared.specs.Calls.{Tries}

@@ -1,7 +1,7 @@
 -- A registration under any of the five operations, and what a handle has.
 use Rattle.std.specs.Prelude.{Bool, true, false, Option, Some, None, Result, Ok, Err}
-use Rattle.phase_shared.specs.phase_base.declared.operation.Op.{Op}
-use Rattle.phase_shared.specs.phase_base.declared.operation.Op.TheVariants.{Sum, Product, Least, Greatest, Any}
+use Rattle.phase_base.specs.declared.operation.Op.{Op}
+use Rattle.phase_base.specs.declared.operation.Op.TheVariants.{Sum, Product, Least, Greatest, Any}
 use Rattle.shared_handle.specs.Members.{AskedRegistration, Registration}
 use Rattle.shared_handle.specs.declared.any_member.AnyMember.{AnyMember}
 use Rattle.shared_handle.specs.declared.any_member.AnyMember.TheVariants as any

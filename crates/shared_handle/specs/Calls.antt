@@ -2,28 +2,28 @@
 -- by events of others up to the moment of the call, and then by its own, where it makes one.
 use Rattle.std.specs.Prelude.{◌≡◌, ◌≢◌, ℕ, ◌+◌, ◌≤◌, ℤ, List, [], ◌∷◌, ◌++◌, true, length, Option, unwrap_or, Result, Ok, Err}
 use Rattle.std.specs.Result.{result_ok}
-use Rattle.phase_shared.specs.phase_base.Limits.{Limits}
-use Rattle.phase_shared.specs.phase_base.declared.entry.Entry.{Entry}
-use Rattle.phase_shared.specs.phase_base.declared.limits.TheConstants.{SENDS_MAX}
-use Rattle.phase_shared.specs.phase_base.declared.mode.Mode.{Mode}
-use Rattle.phase_shared.specs.phase_base.declared.mode.Mode.TheVariants as mode
-use Rattle.phase_shared.specs.phase_accum.Sends.{AreSends}
-use Rattle.phase_shared.specs.phase_accum.declared.outcome.Outcome.{Outcome}
-use Rattle.phase_shared.specs.phase_accum.declared.single.Single.{Single}
-use Rattle.phase_shared.specs.phase_history.declared.got.Got.{Got}
-use Rattle.phase_shared.specs.phase_history.declared.got.GotBlock.{GotBlock}
-use Rattle.phase_shared.specs.phase_history.declared.refusal.RegisterRefusal.{RegisterRefusal}
-use Rattle.phase_shared.specs.phase_history.declared.refusal.RegisterRefusal.TheVariants as register
-use Rattle.phase_shared.specs.phase_history.declared.refusal.SignalRefusal.{SignalRefusal}
-use Rattle.phase_shared.specs.phase_history.declared.refusal.SignalRefusal.TheVariants as signal
-use Rattle.phase_shared.specs.phase_history.declared.refusal.WaitRefusal.{WaitRefusal}
-use Rattle.phase_shared.specs.phase_history.declared.refusal.WaitRefusal.TheVariants as wait
-use Rattle.phase_shared.specs.phase_history.Histories.{History, entry_at}
-use Rattle.phase_shared.specs.phase_history.Replies.{signal_reply, after_signal}
-use Rattle.phase_shared.specs.phase_history.Others.{OthersCame}
-use Rattle.phase_shared.specs.phase_history.declared.refusal.NoTask.{NoTask}
-use Rattle.phase_shared.specs.phase_core.Standings.{missing_of, put_over}
-use Rattle.phase_shared.specs.phase_core.declared.standing.Standing.{Standing}
+use Rattle.phase_base.specs.Limits.{Limits}
+use Rattle.phase_base.specs.declared.entry.Entry.{Entry}
+use Rattle.phase_base.specs.declared.limits.TheConstants.{SENDS_MAX}
+use Rattle.phase_base.specs.declared.mode.Mode.{Mode}
+use Rattle.phase_base.specs.declared.mode.Mode.TheVariants as mode
+use Rattle.phase_accum.specs.Sends.{AreSends}
+use Rattle.phase_accum.specs.declared.outcome.Outcome.{Outcome}
+use Rattle.phase_accum.specs.declared.single.Single.{Single}
+use Rattle.phase_history.specs.declared.got.Got.{Got}
+use Rattle.phase_history.specs.declared.got.GotBlock.{GotBlock}
+use Rattle.phase_history.specs.declared.refusal.RegisterRefusal.{RegisterRefusal}
+use Rattle.phase_history.specs.declared.refusal.RegisterRefusal.TheVariants as register
+use Rattle.phase_history.specs.declared.refusal.SignalRefusal.{SignalRefusal}
+use Rattle.phase_history.specs.declared.refusal.SignalRefusal.TheVariants as signal
+use Rattle.phase_history.specs.declared.refusal.WaitRefusal.{WaitRefusal}
+use Rattle.phase_history.specs.declared.refusal.WaitRefusal.TheVariants as wait
+use Rattle.phase_history.specs.Histories.{History, entry_at}
+use Rattle.phase_history.specs.Replies.{signal_reply, after_signal}
+use Rattle.phase_history.specs.Others.{OthersCame}
+use Rattle.phase_history.specs.declared.refusal.NoTask.{NoTask}
+use Rattle.phase_core.specs.Standings.{missing_of, put_over}
+use Rattle.phase_core.specs.declared.standing.Standing.{Standing}
 use Rattle.phase_shared.specs.declared.next.Next.{Next}
 use Rattle.phase_shared.specs.declared.tried.Tried.{Tried}
 use Rattle.phase_shared.specs.declared.tried.Tried.TheVariants.{Busy, Refused}

@@ -1,13 +1,13 @@
 -- A registration with its phaser, as contracts see it.
 use Rattle.std.specs.Prelude.{◌≡◌, ℕ, ℤ, List, [], ◌∷◌, Option, Some, None}
-use Rattle.phase_shared.specs.turn_lock.Seats.{Place}
-use Rattle.phase_shared.specs.phase_base.Limits.{Limits, limits}
-use Rattle.phase_shared.specs.phase_base.Members.{entry_of}
-use Rattle.phase_shared.specs.phase_base.declared.entry.Entry.{Entry}
-use Rattle.phase_shared.specs.phase_history.declared.event.Event.TheVariants.{Made}
-use Rattle.phase_shared.specs.phase_history.Histories.{History, founder, members_of}
-use Rattle.phase_shared.specs.phase_history.Legal.{IsLegal}
-use Rattle.phase_shared.specs.phase_history.Others.{OnlyUsed}
+use Rattle.turn_lock.specs.Seats.{Place}
+use Rattle.phase_base.specs.Limits.{Limits, limits}
+use Rattle.phase_base.specs.Members.{entry_of}
+use Rattle.phase_base.specs.declared.entry.Entry.{Entry}
+use Rattle.phase_history.specs.declared.event.Event.TheVariants.{Made}
+use Rattle.phase_history.specs.Histories.{History, founder, members_of}
+use Rattle.phase_history.specs.Legal.{IsLegal}
+use Rattle.phase_history.specs.Others.{OnlyUsed}
 use Rattle.phase_shared.specs.declared.rule.Terms.{Terms}
 use Rattle.phase_shared.specs.declared.rule.Unwoken.{Unwoken}
 use Rattle.phase_shared.specs.Calls.{Leaves}

@@ -1,14 +1,14 @@
 -- Waits for blocks, as C is told of them: the numbers of the values stand in the first places.
 use Rattle.std.specs.Prelude.{◌≡◌, ℕ, ℤ, List, [], ◌∷◌, length, Result}
-use Rattle.phase_shared.specs.phase_base.Limits.{Limits}
-use Rattle.phase_shared.specs.phase_accum.declared.outcome.Outcome.{Outcome}
-use Rattle.phase_shared.specs.phase_history.declared.got.GotBlock.{GotBlock}
-use Rattle.phase_shared.specs.phase_history.declared.refusal.WaitRefusal.{WaitRefusal}
-use Rattle.phase_shared.specs.phase_history.declared.refusal.WaitRefusal.TheVariants as wait
-use Rattle.phase_shared.specs.phase_history.Histories.{History}
-use Rattle.phase_shared.specs.phase_history.Phases.{stream_of}
-use Rattle.phase_shared.specs.phase_history.Replies.{wait_block_reply, after_wait_block}
-use Rattle.phase_shared.specs.phase_history.Others.{OthersCame}
+use Rattle.phase_base.specs.Limits.{Limits}
+use Rattle.phase_accum.specs.declared.outcome.Outcome.{Outcome}
+use Rattle.phase_history.specs.declared.got.GotBlock.{GotBlock}
+use Rattle.phase_history.specs.declared.refusal.WaitRefusal.{WaitRefusal}
+use Rattle.phase_history.specs.declared.refusal.WaitRefusal.TheVariants as wait
+use Rattle.phase_history.specs.Histories.{History}
+use Rattle.phase_history.specs.Phases.{stream_of}
+use Rattle.phase_history.specs.Replies.{wait_block_reply, after_wait_block}
+use Rattle.phase_history.specs.Others.{OthersCame}
 use Rattle.phase_shared.specs.declared.tried.Tried.{Tried}
 use Rattle.phase_shared.specs.Blocks.{entry_after_values}
 use Rattle.handle_numbers.specs.Blocks.{numbers_after}

@@ -1,20 +1,20 @@
 -- What C is told of the registration behind a handle: the status and what is written are functions
 -- of the answer of its call.
 use Rattle.std.specs.Prelude.{◌≡◌, ◌⊎◌, ◌<◌, ◌≤◌, ℕ, ℤ, List, length, Option, Some, None, Result, Ok, Err}
-use Rattle.phase_shared.specs.phase_base.declared.operation.Op.{Op}
-use Rattle.phase_shared.specs.phase_base.declared.limits.TheConstants.{SENDS_MAX}
-use Rattle.phase_shared.specs.phase_accum.Sends.{AreSends}
-use Rattle.phase_shared.specs.phase_accum.Values.{value_by}
-use Rattle.phase_shared.specs.phase_accum.declared.single.Single.{Single}
-use Rattle.phase_shared.specs.phase_history.declared.got.Got.{Got}
-use Rattle.phase_shared.specs.phase_history.declared.got.Got.TheVariants as got
-use Rattle.phase_shared.specs.phase_history.declared.got.GotBlock.{GotBlock}
-use Rattle.phase_shared.specs.phase_history.declared.got.GotBlock.TheVariants as block
-use Rattle.phase_shared.specs.phase_history.declared.refusal.RegisterRefusal.{RegisterRefusal}
-use Rattle.phase_shared.specs.phase_history.declared.refusal.SignalRefusal.{SignalRefusal}
-use Rattle.phase_shared.specs.phase_history.declared.refusal.WaitRefusal.{WaitRefusal}
-use Rattle.phase_shared.specs.phase_history.declared.refusal.NoTask.{NoTask}
-use Rattle.phase_shared.specs.phase_core.declared.standing.Standing.{Standing as PhaserStanding}
+use Rattle.phase_base.specs.declared.operation.Op.{Op}
+use Rattle.phase_base.specs.declared.limits.TheConstants.{SENDS_MAX}
+use Rattle.phase_accum.specs.Sends.{AreSends}
+use Rattle.phase_accum.specs.Values.{value_by}
+use Rattle.phase_accum.specs.declared.single.Single.{Single}
+use Rattle.phase_history.specs.declared.got.Got.{Got}
+use Rattle.phase_history.specs.declared.got.Got.TheVariants as got
+use Rattle.phase_history.specs.declared.got.GotBlock.{GotBlock}
+use Rattle.phase_history.specs.declared.got.GotBlock.TheVariants as block
+use Rattle.phase_history.specs.declared.refusal.RegisterRefusal.{RegisterRefusal}
+use Rattle.phase_history.specs.declared.refusal.SignalRefusal.{SignalRefusal}
+use Rattle.phase_history.specs.declared.refusal.WaitRefusal.{WaitRefusal}
+use Rattle.phase_history.specs.declared.refusal.NoTask.{NoTask}
+use Rattle.phase_core.specs.declared.standing.Standing.{Standing as PhaserStanding}
 use Rattle.phase_shared.specs.declared.tried.Tried.{Tried}
 use Rattle.phase_shared.specs.declared.tried.Tried.TheVariants.{Busy, Refused}
 use Rattle.handle_numbers.specs.Numbers.{Names, signal_status, wait_status, wait_block_status, signal_number, register_number, value_number, mode_number, op_number, phase_or}

@@ -1,16 +1,16 @@
 //! A registration that asks, under any of the five operations.
 ghost use Rattle.std.specs.Prelude.{◌≡◌, None, IfOk, IfErr};
-ghost use Rattle.phase_shared.specs.phase_accum.Values.{value_by};
+ghost use Rattle.phase_accum.specs.Values.{value_by};
 ghost use Rattle.shared_handle.specs.Members.{IsInItsHistory, sent_value};
 ghost use Rattle.shared_handle.specs.Calls.{NextCall};
 ghost use Rattle.shared_handle.specs.AnyMembers.{op_in, op_asked, state_in, asked_state};
 
 use crate::any_member::AnyMember;
 use crate::asked_member::AskedMember;
+use phase_accum::{Any, Greatest, Least, Op, Product, Sum};
+use phase_base::Entry;
+use phase_core::{Got, SignalRefusal};
 use phase_shared::Tried;
-use phase_shared::phase_accum::{Any, Greatest, Least, Op, Product, Sum};
-use phase_shared::phase_base::Entry;
-use phase_shared::phase_core::{Got, SignalRefusal};
 
 /// A registration that asks, with its phaser, by the operation of the phaser. Each call is the one
 /// of `AskedMember` of the same name.

@@ -1,19 +1,17 @@
 //! A registration under any of the five operations.
 ghost use Rattle.std.specs.Prelude.{◌≡◌, ◌≤◌, ℕ, Ok, IfOk, IfErr, IsOk, OnErr, length};
-ghost use Rattle.phase_shared.specs.phase_base.declared.limits.TheConstants.{SENDS_MAX};
-ghost use Rattle.phase_shared.specs.phase_accum.Sends.{AreSends};
-ghost use Rattle.phase_shared.specs.phase_accum.Values.{value_by};
+ghost use Rattle.phase_base.specs.declared.limits.TheConstants.{SENDS_MAX};
+ghost use Rattle.phase_accum.specs.Sends.{AreSends};
+ghost use Rattle.phase_accum.specs.Values.{value_by};
 ghost use Rattle.shared_handle.specs.Members.{IsInItsHistory, IsFounding, IsOnlyOne, HasLeft};
 ghost use Rattle.shared_handle.specs.Calls.{SignalCall, NextCall, WaitCall, BlockSignalCall, BlockWaitCall, AddCall, AddNowCall, MissingCall};
 ghost use Rattle.shared_handle.specs.AnyMembers.{op_in, state_in, state_of};
 
 use crate::member::Member;
+use phase_accum::{Any, Greatest, Least, Op, Outcome, Product, Single, Sum};
+use phase_base::{Entry, Mode, Spec};
+use phase_core::{Got, GotBlock, NoTask, RegisterRefusal, SignalRefusal, Standing, WaitRefusal};
 use phase_shared::Tried;
-use phase_shared::phase_accum::{Any, Greatest, Least, Op, Outcome, Product, Single, Sum};
-use phase_shared::phase_base::{Entry, Mode, Spec};
-use phase_shared::phase_core::{
-    Got, GotBlock, NoTask, RegisterRefusal, SignalRefusal, Standing, WaitRefusal,
-};
 use std::alloc::{AllocError, Global};
 
 /// A registration with its phaser, by the operation of the phaser. Each call is the one of `Member`

@@ -1,6 +1,6 @@
 //! Calls by which the registration of a handle asks for its next phase, and ends that.
 ghost use Rattle.std.specs.Prelude.{◌≡◌, ◌⊎◌, Some, None, IsSome, true, false, IfOk, IfErr, OnErr};
-ghost use Rattle.phase_shared.specs.phase_accum.Values.{value_by};
+ghost use Rattle.phase_accum.specs.Values.{value_by};
 ghost use Rattle.handle_numbers.specs.declared.numbers.TheConstants.{ASKED, BUSY, NOT_ASKED};
 ghost use Rattle.shared_handle.specs.AnyMembers.{op_in, op_asked, state_in, asked_state, held_in, asker_in, StillHas, HasAsked};
 ghost use Rattle.shared_handle.specs.Calls.{NextCall};
@@ -12,8 +12,8 @@ ghost use Rattle.shared_handle.specs.declared.any_member.AnyMember.{AnyMember};
 use crate::handle::Handle;
 use crate::kept::Held;
 use handle_numbers::numbers::*;
+use phase_core::{Got, SignalRefusal};
 use phase_shared::Tried;
-use phase_shared::phase_core::{Got, SignalRefusal};
 use std::alloc::Global;
 use std::mem;
 

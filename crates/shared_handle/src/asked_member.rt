@@ -1,14 +1,14 @@
 //! A registration that asks for its next phase, and owns a share of its phaser.
 ghost use Rattle.std.specs.Prelude.{◌≡◌, true, None, IfOk, IfErr};
-ghost use Rattle.phase_shared.specs.phase_accum.Parcels.{StandsForSends};
+ghost use Rattle.phase_accum.specs.Parcels.{StandsForSends};
 ghost use Rattle.shared_handle.specs.Members.{IsInItsHistory, sent_value};
 ghost use Rattle.phase_shared.specs.Calls.{tried};
 ghost use Rattle.shared_handle.specs.Calls.{NextCall, both_of};
 
 use crate::member::Member;
-use phase_shared::phase_accum::Accumulate;
-use phase_shared::phase_base::Entry;
-use phase_shared::phase_core::{Got, SignalRefusal};
+use phase_accum::Accumulate;
+use phase_base::Entry;
+use phase_core::{Got, SignalRefusal};
 use phase_shared::{Loose, LooseAsked, Next, Phaser, Reg, Tried, Unwoken};
 use std::alloc::Global;
 use std::marker::Model;
@@ -28,7 +28,7 @@ pub struct AskedMember<A: Accumulate> {
 impl<A: Accumulate> Model for AskedMember<A> {
     ghost use Rattle.std.specs.Prelude.{◌≡◌};
     ghost use Rattle.std.specs.Arc.{arc_value};
-    ghost use Rattle.phase_shared.specs.phase_accum.Parcels.{StandsForSends};
+    ghost use Rattle.phase_accum.specs.Parcels.{StandsForSends};
     ghost use Rattle.phase_shared.specs.Regs.{phaser_lock};
     ghost use Rattle.shared_handle.specs.Members.{AskedRegistration, as_asked, sent_value};
 

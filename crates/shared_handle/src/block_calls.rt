@@ -1,10 +1,10 @@
 //! Calls of the registration of a handle on blocks of phases.
 ghost use Rattle.std.specs.Prelude.{◌≡◌, ◌≤◌, ℕ, Some, IsSome, Ok, Err, IfOk, OnErr, length};
-ghost use Rattle.phase_shared.specs.phase_base.Limits.{Limits, AreLimits};
-ghost use Rattle.phase_shared.specs.phase_accum.Sends.{AreSends};
-ghost use Rattle.phase_shared.specs.phase_accum.Values.{value_by};
-ghost use Rattle.phase_shared.specs.phase_history.Histories.{History};
-ghost use Rattle.phase_shared.specs.phase_history.Replies.{wait_block_reply};
+ghost use Rattle.phase_base.specs.Limits.{Limits, AreLimits};
+ghost use Rattle.phase_accum.specs.Sends.{AreSends};
+ghost use Rattle.phase_accum.specs.Values.{value_by};
+ghost use Rattle.phase_history.specs.Histories.{History};
+ghost use Rattle.phase_history.specs.Replies.{wait_block_reply};
 ghost use Rattle.shared_handle.specs.AnyMembers.{op_in, state_in, held_in, asker_in, StillHas};
 ghost use Rattle.shared_handle.specs.Calls.{BlockSignalCall, BlockWaitCall};
 ghost use Rattle.shared_handle.specs.NumberBlocks.{NumbersCall};
@@ -14,9 +14,9 @@ ghost use Rattle.shared_handle.specs.declared.any_member.AnyMember.{AnyMember};
 use crate::handle::Handle;
 use crate::kept::Held;
 use handle_numbers::{places, write_numbers};
+use phase_accum::{Outcome, Single};
+use phase_core::{GotBlock, SignalRefusal, WaitRefusal};
 use phase_shared::Tried;
-use phase_shared::phase_accum::{Outcome, Single};
-use phase_shared::phase_core::{GotBlock, SignalRefusal, WaitRefusal};
 use std::alloc::{AllocError, Global};
 
 impl Handle {

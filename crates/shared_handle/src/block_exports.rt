@@ -1,7 +1,7 @@
 //! What C calls for blocks of phases.
 ghost use Rattle.std.specs.Prelude.{◌≡◌, ◌≢◌, ◌⊎◌, ℤ, Option, Some, None, IsSome};
-ghost use Rattle.phase_shared.specs.phase_accum.Sends.{AreSends};
-ghost use Rattle.phase_shared.specs.phase_accum.declared.single.Single.{Single};
+ghost use Rattle.phase_accum.specs.Sends.{AreSends};
+ghost use Rattle.phase_accum.specs.declared.single.Single.{Single};
 ghost use Rattle.handle_numbers.specs.Numbers.{Names};
 ghost use Rattle.handle_numbers.specs.declared.numbers.TheConstants.{GOOD, BUSY, NO_PHASER, OUT_OF_MEMORY};
 ghost use Rattle.shared_handle.specs.AnyMembers.{held_in, asker_in, StillHas};

@@ -1,8 +1,8 @@
 //! Calls of the registration of a handle on single phases.
 ghost use Rattle.std.specs.Prelude.{◌≡◌, ◌≤◌, Some, IsSome, Err, length};
-ghost use Rattle.phase_shared.specs.phase_base.declared.limits.TheConstants.{SENDS_MAX};
-ghost use Rattle.phase_shared.specs.phase_accum.Sends.{AreSends};
-ghost use Rattle.phase_shared.specs.phase_accum.Values.{value_by};
+ghost use Rattle.phase_base.specs.declared.limits.TheConstants.{SENDS_MAX};
+ghost use Rattle.phase_accum.specs.Sends.{AreSends};
+ghost use Rattle.phase_accum.specs.Values.{value_by};
 ghost use Rattle.shared_handle.specs.AnyMembers.{op_in, state_in, held_in, asker_in, StillHas};
 ghost use Rattle.shared_handle.specs.Calls.{SignalCall, NextCall, WaitCall};
 ghost use Rattle.shared_handle.specs.declared.any_asked.AnyAsked.{AnyAsked};
@@ -10,9 +10,9 @@ ghost use Rattle.shared_handle.specs.declared.any_member.AnyMember.{AnyMember};
 
 use crate::handle::Handle;
 use crate::kept::Held;
+use phase_accum::Single;
+use phase_core::{Got, SignalRefusal, WaitRefusal};
 use phase_shared::Tried;
-use phase_shared::phase_accum::Single;
-use phase_shared::phase_core::{Got, SignalRefusal, WaitRefusal};
 use std::alloc::Global;
 
 impl Handle {

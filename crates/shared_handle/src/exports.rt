@@ -1,10 +1,10 @@
 //! What C calls to have a phaser, and for single phases.
 ghost use Rattle.std.specs.Prelude.{◌≡◌, ◌≢◌, ◌≤◌, ◌<◌, ◌⊎◌, ℤ, Option, Some, None, IsSome, IfOk, length};
-ghost use Rattle.phase_shared.specs.phase_base.Limits.{limits, IsBound};
-ghost use Rattle.phase_shared.specs.phase_base.declared.limits.TheConstants.{BOUND_MAX, PHASES_MAX, SENDS_MAX};
-ghost use Rattle.phase_shared.specs.phase_base.declared.operation.Op.{Op};
-ghost use Rattle.phase_shared.specs.phase_accum.Sends.{AreSends};
-ghost use Rattle.phase_shared.specs.phase_accum.declared.single.Single.{Single};
+ghost use Rattle.phase_base.specs.Limits.{limits, IsBound};
+ghost use Rattle.phase_base.specs.declared.limits.TheConstants.{BOUND_MAX, PHASES_MAX, SENDS_MAX};
+ghost use Rattle.phase_base.specs.declared.operation.Op.{Op};
+ghost use Rattle.phase_accum.specs.Sends.{AreSends};
+ghost use Rattle.phase_accum.specs.declared.single.Single.{Single};
 ghost use Rattle.handle_numbers.specs.Numbers.{op_numbered, Names};
 ghost use Rattle.handle_numbers.specs.declared.numbers.TheConstants.{GOOD, ENDED, SIGNALLED, BUSY, NO_PHASER, HAS_PHASER, BAD_OPERATION, BAD_BOUND, BAD_PHASES, OUT_OF_MEMORY};
 ghost use Rattle.shared_handle.specs.AnyMembers.{op_in, state_in, held_in, asker_in, StillHas};
@@ -20,8 +20,8 @@ use crate::told::{told_next, told_signal, told_wait, write_got, write_next, writ
 use crate::words::signal_words;
 use handle_numbers::numbers::*;
 use handle_numbers::op_of;
-use phase_shared::phase_accum::Op;
-use phase_shared::phase_base::{Spec, SpecFault};
+use phase_accum::Op;
+use phase_base::{Spec, SpecFault};
 use std::alloc::{AllocError, Global};
 
 /// Makes a phaser and its founder, in a block.

@@ -46,10 +46,8 @@ pub use ask_exports::{
 pub use block_exports::{phase_member_signal_block, phase_member_wait_block};
 pub use exports::{phase_member_new, phase_member_next, phase_member_signal, phase_member_wait};
 pub use handle::Handle;
-pub use handle_numbers;
 pub use member_exports::{
     Standing, phase_member_leave, phase_member_register, phase_member_register_now,
     phase_member_told, phase_member_view,
 };
-pub use phase_shared;
 pub use standing_exports::{Counts, phase_member_close, phase_member_closed, phase_member_missing};

@@ -1,14 +1,14 @@
 //! A registration that owns a share of its phaser.
 ghost use Rattle.std.specs.Prelude.{◌≡◌, ◌≤◌, ℕ, Ok, IfOk, IfErr, IsOk, OnErr, length};
-ghost use Rattle.phase_shared.specs.phase_base.declared.limits.TheConstants.{SENDS_MAX};
-ghost use Rattle.phase_shared.specs.phase_accum.Sends.{AreSends};
+ghost use Rattle.phase_base.specs.declared.limits.TheConstants.{SENDS_MAX};
+ghost use Rattle.phase_accum.specs.Sends.{AreSends};
 ghost use Rattle.shared_handle.specs.Members.{IsInItsHistory, IsFounding, IsOnlyOne, HasLeft};
 ghost use Rattle.shared_handle.specs.Calls.{SignalCall, NextCall, WaitCall, BlockSignalCall, BlockWaitCall, AddCall, AddNowCall, MissingCall};
 
+use phase_accum::{Accumulate, Outcome, Pending, Single};
 use phase_any::held;
-use phase_shared::phase_accum::{Accumulate, Outcome, Pending, Single};
-use phase_shared::phase_base::{Entry, Mode, Spec};
-use phase_shared::phase_core::{
+use phase_base::{Entry, Mode, Spec};
+use phase_core::{
     Got, GotBlock, NoTask, RegisterRefusal, SignalRefusal, Standing, WaitRefusal, hold_each,
 };
 use phase_shared::{Loose, Phaser, Tried, Unwoken};

@@ -13,10 +13,10 @@ use crate::handle::Handle;
 use crate::kept::Held;
 use crate::member_exports::Standing;
 use handle_numbers::{mode_code, op_code};
+use phase_accum::Op;
+use phase_base::{Entry, Mode};
+use phase_core::RegisterRefusal;
 use phase_shared::Tried;
-use phase_shared::phase_accum::Op;
-use phase_shared::phase_base::{Entry, Mode};
-use phase_shared::phase_core::RegisterRefusal;
 use std::alloc::{AllocError, Global};
 use std::mem;
 

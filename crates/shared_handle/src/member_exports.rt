@@ -1,6 +1,6 @@
 //! What C calls to have registrations come and go, and to read what they stand at.
 ghost use Rattle.std.specs.Prelude.{◌≡◌, ◌≢◌, ◌⊎◌, Some, None, IsSome, IfOk, OnErr};
-ghost use Rattle.phase_shared.specs.phase_base.declared.mode.Mode.{Mode};
+ghost use Rattle.phase_base.specs.declared.mode.Mode.{Mode};
 ghost use Rattle.handle_numbers.specs.Numbers.{mode_numbered};
 ghost use Rattle.handle_numbers.specs.declared.numbers.TheConstants.{GOOD, BUSY, NO_PHASER, HAS_PHASER, BAD_MODE, OUT_OF_MEMORY};
 ghost use Rattle.shared_handle.specs.AnyMembers.{state_in, asked_state, held_in, asker_in, StillHas};
@@ -15,8 +15,8 @@ use crate::handle::Handle;
 use crate::kept::{Held, Kept};
 use handle_numbers::numbers::*;
 use handle_numbers::{mode_of, register_code};
+use phase_core::RegisterRefusal;
 use phase_shared::Tried;
-use phase_shared::phase_core::RegisterRefusal;
 use std::alloc::Global;
 
 /// Where a registration stands: its number, its phases, counted from 0, and the numbers of its mode

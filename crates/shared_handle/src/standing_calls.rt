@@ -7,8 +7,8 @@ ghost use Rattle.shared_handle.specs.declared.any_member.AnyMember.{AnyMember};
 
 use crate::handle::Handle;
 use crate::kept::Held;
+use phase_core::{NoTask, Standing};
 use phase_shared::Tried;
-use phase_shared::phase_core::{NoTask, Standing};
 use std::alloc::Global;
 
 impl Handle {

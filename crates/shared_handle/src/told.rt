@@ -6,8 +6,8 @@ ghost use Rattle.shared_handle.specs.Told.{tried_status, next_status, missing_st
 use crate::standing_exports::Counts;
 use handle_numbers::numbers::*;
 use handle_numbers::{signal_code, value_code, wait_code};
+use phase_core::{Got, GotBlock, NoTask, SignalRefusal, Standing, WaitRefusal};
 use phase_shared::Tried;
-use phase_shared::phase_core::{Got, GotBlock, NoTask, SignalRefusal, Standing, WaitRefusal};
 
 /// The number of what a signal is answered.
 pub fn told_signal(answer: &Result<u64, Tried<SignalRefusal>>) -> i32

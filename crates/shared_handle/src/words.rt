@@ -1,16 +1,16 @@
 //! What a signal names, read before the phaser is asked.
 ghost use Rattle.std.specs.Prelude.{◌≡◌, ◌≤◌, ℤ, Option, Ok, Err, IfOk, length};
-ghost use Rattle.phase_shared.specs.phase_base.declared.limits.TheConstants.{SENDS_MAX};
-ghost use Rattle.phase_shared.specs.phase_accum.Sends.{AreSends};
-ghost use Rattle.phase_shared.specs.phase_accum.declared.single.Single.{Single};
+ghost use Rattle.phase_base.specs.declared.limits.TheConstants.{SENDS_MAX};
+ghost use Rattle.phase_accum.specs.Sends.{AreSends};
+ghost use Rattle.phase_accum.specs.declared.single.Single.{Single};
 ghost use Rattle.handle_numbers.specs.Numbers.{Names};
 ghost use Rattle.shared_handle.specs.Told.{IsBadBlock, IsBadSignal};
 
 use handle_numbers::numbers::*;
 use handle_numbers::single_of;
-use phase_shared::phase_accum::Single;
-use phase_shared::phase_base::SENDS_MAX;
-use phase_shared::phase_core::are_sends;
+use phase_accum::Single;
+use phase_base::SENDS_MAX;
+use phase_core::are_sends;
 
 /// Returns the single or none that is named beside a block of values, or the status of why it is
 /// refused.

@@ -8,7 +8,7 @@ use Rattle.std.proofs.lemmas.Bool.Decides.{nat_tests}
 use Rattle.std.proofs.lemmas.List.{get_or_append_left, get_or_push, length_push}
 use Rattle.std.proofs.lemmas.List.Folds.{list_any_at}
 use Rattle.std.proofs.lemmas.List.FromFn.{length-range_with_len, get_or-range_with_len}
-use Rattle.stream_lists.specs.graph_base.Graphs.{task_at, phaser_at}
+use Rattle.graph_base.specs.Graphs.{task_at, phaser_at}
 use Rattle.stream_lists.specs.Jobs.{Job, samples_at, index_in}
 use Rattle.stream_lists.specs.Spans.{nowhere, signalled_by, takes_from, Schedule, schedule_of}
 use Rattle.stream_lists.specs.Lists.{is_sink_at, list_over, contribution_at, contribution_by, contributions_on, number, numbers_up_to, output_list, output_on, phase_in, sink_over, sinks_of, taken_by, taken_from, value_by}
@@ -17,7 +17,7 @@ use Rattle.stream_lists.specs.declared.span.Span.{Span}
 use Rattle.stream_lists.proofs.Firsts.{fold-range_more, range_next}
 use Rattle.stream_lists.proofs.Growing.{filter_map-same, length-grown, map-same}
 use Rattle.stream_eval.specs.Composing.{is_read_from, list_kept, reads_from, signals_from, signals_on, sinks_on, waits_on}
-use Rattle.stream_lists.specs.graph_base.declared.place.Place.TheVariants as place
+use Rattle.graph_base.specs.declared.place.Place.TheVariants as place
 
 -- lists that are the same where they are read from phaser p on
 abbrev pub AgreeFrom : Job → ℕ → List (List ℤ) → List (List ℤ) → Type 0

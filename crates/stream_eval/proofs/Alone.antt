@@ -5,13 +5,13 @@ use Rattle.std.specs.List.{range_with_len, find}
 use Rattle.std.proofs.lemmas.Bool.Decides.{nat_tests}
 use Rattle.std.proofs.lemmas.Int.{ints}
 use Rattle.std.proofs.lemmas.Option.{slice_get-get_or}
-use Rattle.stream_lists.specs.phase_accum.Sends.{AreSends, IsSend, value_max}
-use Rattle.stream_lists.specs.phase_accum.Values.{applied, ranged}
-use Rattle.stream_lists.specs.phase_accum.declared.outcome.Outcome.{Outcome}
-use Rattle.stream_lists.specs.phase_accum.declared.outcome.Outcome.TheVariants.{Value}
-use Rattle.stream_lists.specs.graph_base.Graphs.{phaser_at}
-use Rattle.stream_lists.specs.phase_base.declared.operation.Op.{Op}
-use Rattle.stream_lists.specs.phase_base.declared.operation.Op.TheVariants.{Sum, Product, Least, Greatest, Any}
+use Rattle.phase_accum.specs.Sends.{AreSends, IsSend, value_max}
+use Rattle.phase_accum.specs.Values.{applied, ranged}
+use Rattle.phase_accum.specs.declared.outcome.Outcome.{Outcome}
+use Rattle.phase_accum.specs.declared.outcome.Outcome.TheVariants.{Value}
+use Rattle.graph_base.specs.Graphs.{phaser_at}
+use Rattle.phase_base.specs.declared.operation.Op.{Op}
+use Rattle.phase_base.specs.declared.operation.Op.TheVariants.{Sum, Product, Least, Greatest, Any}
 use Rattle.stream_lists.specs.Jobs.{Job}
 use Rattle.stream_lists.specs.Lists.{Contribution, entry, number, number_in, sends_in, value_by}
 use Rattle.stream_lists.specs.Ranges.{first_fault, is_fault}

@@ -4,13 +4,13 @@ use Rattle.std.specs.Prelude.{Option, get_or}
 use Rattle.std.specs.Option.{option_map}
 use Rattle.std.specs.List.{range_with_len, find}
 use Rattle.std.proofs.lemmas.List.FromFn.{map-range_with_len_more}
-use Rattle.stream_lists.specs.graph_base.Graphs.{phaser_at}
+use Rattle.graph_base.specs.Graphs.{phaser_at}
 use Rattle.stream_lists.specs.Jobs.{Job}
 use Rattle.stream_lists.specs.Spans.{lengths_of, schedule_of}
 use Rattle.stream_lists.specs.Lists.{Contribution, contributions_on, value_by, list_over, number, number_in, phase_in}
 use Rattle.stream_lists.specs.Ranges.{Where, output_fault_of, phase_fault_of, is_fault, first_some, fault_over}
-use Rattle.stream_lists.specs.phase_accum.declared.outcome.Outcome.{Outcome}
-use Rattle.stream_lists.specs.graph_base.declared.place.Place.TheVariants as place
+use Rattle.phase_accum.specs.declared.outcome.Outcome.{Outcome}
+use Rattle.graph_base.specs.declared.place.Place.TheVariants as place
 use Rattle.stream_lists.proofs.Firsts.{first-append_some, first-append_none}
 
 -- the members' outputs are looked at before the phases

@@ -6,7 +6,7 @@ use Rattle.std.specs.List.{All}
 use Rattle.std.proofs.lemmas.Bool.{cases_lt}
 use Rattle.std.proofs.lemmas.List.{map-set, get_or-set_same, get_or-set_other, length-map, length-set, append-nil, take_all}
 use Rattle.std.proofs.lemmas.List.Elements.{All-set}
-use Rattle.stream_lists.specs.phase_accum.Sends.{AreSends}
+use Rattle.phase_accum.specs.Sends.{AreSends}
 use Rattle.stream_lists.specs.JobFields.{items_of}
 use Rattle.stream_lists.specs.Jobs.{Job}
 use Rattle.stream_eval.specs.Composing.{is_read_from, list_kept}

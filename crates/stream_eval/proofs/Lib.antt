@@ -8,4 +8,3 @@ pub mod Parts
 pub mod Sendable
 pub mod Sends
 pub mod SinkStarts
-pub use Rattle.stream_lists.proofs as stream_lists_lemmas

@@ -3,13 +3,13 @@ use Rattle.std.proofs.Common.{◌≡◌, ℕ, zero, suc, ◌+◌, ◌<◌, ◌�
 use Rattle.std.specs.List.{position_from}
 use Rattle.std.proofs.lemmas.List.{take_more, take_all}
 use Rattle.std.proofs.Math.ListN.{drop_of_length-le}
-use Rattle.stream_lists.specs.stream_filters.Range.{ranged}
-use Rattle.stream_lists.specs.stream_filters.declared.fault.TooBigValue.{TooBigValue}
-use Rattle.stream_lists.specs.phase_accum.Sends.{IsSend, AreSends}
-use Rattle.stream_lists.proofs.phase_accum_lemmas.Parts.{AreSends-append}
+use Rattle.stream_filters.specs.Range.{ranged}
+use Rattle.stream_filters.specs.declared.fault.TooBigValue.{TooBigValue}
+use Rattle.phase_accum.specs.Sends.{IsSend, AreSends}
+use Rattle.phase_accum.proofs.Parts.{AreSends-append}
 use Rattle.stream_lists.specs.Ranges.{is_out_of_range}
 use Rattle.stream_lists.proofs.InRange.{IsSend-in_range}
-use Rattle.stream_lists.proofs.stream_filters_lemmas.Made.{position-pass, position-here, ranged-ok, ranged-err}
+use Rattle.stream_filters.proofs.Made.{position-pass, position-here, ranged-ok, ranged-err}
 
 -- ---- values that can be sent
 

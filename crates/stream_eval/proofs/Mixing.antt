@@ -2,8 +2,8 @@
 use Rattle.std.proofs.Common.{◌≡◌, ℕ, ◌<◌, List, length, get_or, ℤ, pos, ◌*ℤ◌, ◌-ℤ◌, sym, ap, ◌∙◌, zero-add}
 use Rattle.std.specs.Prelude.{Result}
 use Rattle.std.proofs.lemmas.List.FromFn.{length-map-range_with_len, get_or-map-range_with_len}
-use Rattle.stream_lists.specs.stream_filters.Range.{ranged}
-use Rattle.stream_lists.specs.stream_filters.declared.fault.TooBigValue.{TooBigValue}
+use Rattle.stream_filters.specs.Range.{ranged}
+use Rattle.stream_filters.specs.declared.fault.TooBigValue.{TooBigValue}
 use Rattle.stream_lists.specs.Lists.{entry, mixed, mixed_at}
 
 pub length-mixed : (mul : ℤ) (xs es : List ℤ) → length (mixed mul xs es) ≡ length xs

@@ -6,13 +6,13 @@ use Rattle.std.proofs.lemmas.Bool.{cases_lt}
 use Rattle.std.proofs.lemmas.List.{drop-drop, take_all, get_or-take, get_or-drop, length-take-le, length-drop, same_lists}
 use Rattle.std.proofs.lemmas.Simd.{length-chunk, get_or-chunk}
 use Rattle.std.proofs.Math.Seq.{take-add}
-use Rattle.stream_lists.specs.phase_accum.Sends.{AreSends}
-use Rattle.stream_lists.specs.stream_filters.Filter.{back, output_after, outputs, reach, shifted_down}
-use Rattle.stream_lists.specs.stream_filters.declared.form.Form.{Form}
+use Rattle.phase_accum.specs.Sends.{AreSends}
+use Rattle.stream_filters.specs.Filter.{back, output_after, outputs, reach, shifted_down}
+use Rattle.stream_filters.specs.declared.form.Form.{Form}
 use Rattle.stream_lists.specs.Ranges.{is_out_of_range}
-use Rattle.stream_lists.proofs.phase_accum_lemmas.Parts.{AreSends-append, AreSends-drop}
-use Rattle.stream_lists.proofs.stream_filters_lemmas.Outputs.{back_is, back-before, outputs-entry, outputs-length}
-use Rattle.stream_lists.proofs.stream_filters_lemmas.Weighted.{weighted-same}
+use Rattle.phase_accum.proofs.Parts.{AreSends-append, AreSends-drop}
+use Rattle.stream_filters.proofs.Outputs.{back_is, back-before, outputs-entry, outputs-length}
+use Rattle.stream_filters.proofs.Weighted.{weighted-same}
 use Rattle.stream_lists.proofs.Fitting.{none_out, all_sends}
 use Rattle.stream_eval.specs.Parts.{ArePart}
 

@@ -1,7 +1,7 @@
 -- Lists of values that can be sent.
 use Rattle.std.proofs.Common.{ℕ, zero, suc, ◌+◌, List, [], ◌∷◌, get_or, map, ℤ, arith}
 use Rattle.std.specs.List.{All, range_with_len}
-use Rattle.stream_lists.specs.phase_accum.Sends.{IsSend, AreSends}
+use Rattle.phase_accum.specs.Sends.{IsSend, AreSends}
 use Rattle.stream_lists.specs.Lists.{entry}
 
 -- one of several lists

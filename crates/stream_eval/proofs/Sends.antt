@@ -7,13 +7,13 @@ use Rattle.std.proofs.lemmas.Bool.Decides.{nat_tests}
 use Rattle.std.proofs.lemmas.List.{get_or-set_same, get_or-set_other, length-set, append-nil, take_all, length-append, get_or_append_left}
 use Rattle.std.proofs.Math.Seq.{get_or-append_seam}
 use Rattle.std.proofs.lemmas.List.Elements.{filter_map-append}
-use Rattle.stream_lists.specs.phase_base.declared.limits.TheConstants.{SENDS_MAX}
-use Rattle.stream_lists.specs.phase_accum.Sends.{IsSend}
-use Rattle.stream_lists.specs.phase_accum.Operations.{Operation, IsPartOf, MayJoin, AccumulateLaws}
-use Rattle.stream_lists.proofs.phase_accum_lemmas.Parts.{IsPartOf-nil, IsPartOf-one, IsPartOf-join}
+use Rattle.phase_base.specs.declared.limits.TheConstants.{SENDS_MAX}
+use Rattle.phase_accum.specs.Sends.{IsSend}
+use Rattle.phase_accum.specs.Operations.{Operation, IsPartOf, MayJoin, AccumulateLaws}
+use Rattle.phase_accum.proofs.Parts.{IsPartOf-nil, IsPartOf-one, IsPartOf-join}
 use Rattle.stream_lists.specs.Lists.{Contribution, send_in, sends_in}
 use Rattle.stream_eval.specs.Composing.{HasParts}
-use Rattle.stream_lists.specs.phase_accum.declared.outcome.Outcome.{Outcome}
+use Rattle.phase_accum.specs.declared.outcome.Outcome.{Outcome}
 
 -- the first i values of a member
 abbrev pub front : ℕ → List ℤ → ℕ → Contribution

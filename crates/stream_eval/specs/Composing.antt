@@ -2,11 +2,11 @@
 -- which lists are still read.
 use Rattle.std.specs.Prelude.{◌≡◌, ℕ, ◌<◌, List, length, get_or, Option, Some, None, ◌-◌, ◌==◌, ◌&&◌, ◌||◌, Bool, [], ℤ, is_some, if◌then◌else◌}
 use Rattle.std.specs.List.{range_with_len, list_any}
-use Rattle.stream_lists.specs.phase_accum.Operations.{Operation, IsPartOf}
-use Rattle.stream_lists.specs.graph_base.TaskLines.{HasEnds, HasTaps, HasEvery}
-use Rattle.stream_lists.specs.graph_base.declared.line.Kind.TheVariants.{Split}
-use Rattle.stream_lists.specs.graph_base.declared.line.TaskLine.{TaskLine}
-use Rattle.stream_lists.specs.graph_base.Graphs.{task_at}
+use Rattle.phase_accum.specs.Operations.{Operation, IsPartOf}
+use Rattle.graph_base.specs.TaskLines.{HasEnds, HasTaps, HasEvery}
+use Rattle.graph_base.specs.declared.line.Kind.TheVariants.{Split}
+use Rattle.graph_base.specs.declared.line.TaskLine.{TaskLine}
+use Rattle.graph_base.specs.Graphs.{task_at}
 use Rattle.stream_lists.specs.Lists.{Contribution, sends_in, is_sink_at}
 use Rattle.stream_lists.specs.Jobs.{Job, index_in}
 use Rattle.stream_lists.specs.Spans.{signalled_by}

@@ -1,6 +1,6 @@
 -- Parts of a list of values, each of which can be sent.
 use Rattle.std.specs.Prelude.{◌≡◌, ◌-◌, ℕ, ℤ, List, take, drop}
-use Rattle.stream_lists.specs.phase_accum.Sends.{AreSends}
+use Rattle.phase_accum.specs.Sends.{AreSends}
 
 -- these are the values of the whole from one place up to another, and all can be sent
 pub record ArePart (whole : List ℤ) (from to : ℕ) (values : List ℤ) : Type 0 where

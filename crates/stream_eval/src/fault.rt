@@ -1,5 +1,5 @@
 //! Why there are no lists.
-use stream_lists::graph_base::Place;
+use graph_base::Place;
 use thiserror::Error;
 
 /// Why whole lists were not composed.

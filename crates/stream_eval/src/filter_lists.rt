@@ -1,12 +1,12 @@
 //! The list of a filter, which several threads may make, a part each.
 ghost use Rattle.std.specs.Prelude.{◌≡◌, ◌≤◌, ℕ, ℤ, List, [], ◌++◌, length, drop, IfOk, IfSome, None, Some, Err, ⊤};
 ghost use Rattle.std.specs.List.{position_from};
-ghost use Rattle.stream_lists.specs.stream_filters.Filter.{AreTaps, outputs};
+ghost use Rattle.stream_filters.specs.Filter.{AreTaps, outputs};
 ghost use Rattle.stream_lists.specs.Ranges.{is_out_of_range};
 ghost use Rattle.stream_eval.specs.Parts.{ArePart};
 
 use std::alloc::Global;
-use stream_lists::stream_filters::{FilterFault, Form, filter_list};
+use stream_filters::{FilterFault, Form, filter_list};
 
 /// Who makes the list of a filter: one thread, or several.
 pub trait FilterLists {

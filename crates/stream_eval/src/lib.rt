@@ -19,6 +19,4 @@ mod whole;
 
 pub use fault::EvalFault;
 pub use filter_lists::{FilterLists, InTurn, filter_part, parts_follow};
-pub use stream_lists;
-pub use stream_lists::stream_filters;
 pub use whole::{Lines, eval, eval_by};

@@ -1,16 +1,16 @@
 //! The lists that tasks make of what they took.
 ghost use Rattle.std.specs.Prelude.{◌≡◌, ◌<◌, ◌≤◌, ℕ, [], length, map, get_or, pos, IfOk, IfSome, None, Some, Err};
 ghost use Rattle.std.specs.List.{All, position_from};
-ghost use Rattle.stream_lists.specs.phase_accum.Sends.{AreSends};
-ghost use Rattle.stream_lists.specs.stream_filters.Filter.{AreTaps, outputs};
+ghost use Rattle.phase_accum.specs.Sends.{AreSends};
+ghost use Rattle.stream_filters.specs.Filter.{AreTaps, outputs};
 ghost use Rattle.stream_lists.specs.Lists.{entry, every, in_turn, mixed};
 ghost use Rattle.stream_lists.specs.Ranges.{is_out_of_range};
 ghost use Rattle.stream_eval.specs.declared.list.ListFault.TheVariants as fault;
 
 use crate::filter_lists::FilterLists;
+use graph_base::EVERY_MAX;
 use std::alloc::{AllocError, Global};
-use stream_lists::graph_base::EVERY_MAX;
-use stream_lists::stream_filters::{FilterFault, Form, Peer};
+use stream_filters::{FilterFault, Form, Peer};
 
 /// Why no list was made.
 #[derive(Clone, Copy, Debug, PartialEq, Eq)]

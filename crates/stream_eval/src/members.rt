@@ -1,12 +1,12 @@
 //! The members of a phaser.
 ghost use Rattle.std.specs.Prelude.{◌≡◌, ◌<◌, ◌≤◌, ℕ, length, map, get_or, IfOk, IfSome, Some, None, Err};
 ghost use Rattle.std.specs.List.{All};
-ghost use Rattle.stream_lists.specs.phase_accum.Sends.{AreSends};
-ghost use Rattle.stream_lists.specs.graph_base.Graphs.{task_at};
-ghost use Rattle.stream_lists.specs.graph_base.GraphFields.{task_of};
-ghost use Rattle.stream_lists.specs.graph_base.declared.line.Kind.TheVariants.{Split};
-ghost use Rattle.stream_lists.specs.graph_base.declared.place.Place.{Place as PlaceValue};
-ghost use Rattle.stream_lists.specs.graph_base.TaskLines.{HasEnds};
+ghost use Rattle.phase_accum.specs.Sends.{AreSends};
+ghost use Rattle.graph_base.specs.Graphs.{task_at};
+ghost use Rattle.graph_base.specs.GraphFields.{task_of};
+ghost use Rattle.graph_base.specs.declared.line.Kind.TheVariants.{Split};
+ghost use Rattle.graph_base.specs.declared.place.Place.{Place as PlaceValue};
+ghost use Rattle.graph_base.specs.TaskLines.{HasEnds};
 ghost use Rattle.stream_lists.specs.JobFields.{items_of};
 ghost use Rattle.stream_lists.specs.Lists.{contribution_at, contributions_on, output_on};
 ghost use Rattle.stream_eval.specs.Composing.{member_of, member_option};
@@ -19,8 +19,8 @@ use crate::list::ListFault;
 use crate::outputs::list_put;
 use crate::phases::MemberList;
 use crate::taken_values::taken_lists;
+use graph_base::{Place, TASKS_MAX};
 use std::alloc::Global;
-use stream_lists::graph_base::{Place, TASKS_MAX};
 use stream_lists::{Job, output_number};
 
 /// What task number `t` puts on its output number `j`, over the lists of the phasers above, or the

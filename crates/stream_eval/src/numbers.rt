@@ -1,10 +1,10 @@
 //! The numbers of a phaser's list.
 ghost use Rattle.std.specs.Prelude.{◌≡◌, ◌<◌, ◌≤◌, ℕ, List, length, map, get_or, IfOk, Some, None, Err};
 ghost use Rattle.std.specs.List.{All, range_with_len};
-ghost use Rattle.stream_lists.specs.phase_accum.Sends.{AreSends, IsSend};
-ghost use Rattle.stream_lists.specs.phase_accum.Values.{applied, IsInRange};
-ghost use Rattle.stream_lists.specs.graph_base.Graphs.{phaser_at};
-ghost use Rattle.stream_lists.specs.graph_base.declared.place.Place.{Place as PlaceValue};
+ghost use Rattle.phase_accum.specs.Sends.{AreSends, IsSend};
+ghost use Rattle.phase_accum.specs.Values.{applied, IsInRange};
+ghost use Rattle.graph_base.specs.Graphs.{phaser_at};
+ghost use Rattle.graph_base.specs.declared.place.Place.{Place as PlaceValue};
 ghost use Rattle.stream_lists.specs.Lists.{Contribution, number, number_in};
 ghost use Rattle.stream_eval.specs.Composing.{HasParts, member_of};
 ghost use Rattle.stream_lists.specs.Ranges.{first_fault};
@@ -14,9 +14,9 @@ use crate::fault::EvalFault;
 use crate::list::held_count;
 use crate::phases::{MemberList, parts_of};
 use crate::taken_phases::is_faulty;
+use graph_base::{Place, TASKS_MAX};
+use phase_accum::{Accumulate, Outcome, apply};
 use std::alloc::Global;
-use stream_lists::graph_base::{Place, TASKS_MAX};
-use stream_lists::phase_accum::{Accumulate, Outcome, apply};
 use stream_lists::{Job, number_of};
 
 /// The number that the list of phaser number `p` has for the value of a phase, before its single.

@@ -1,8 +1,8 @@
 //! What a task makes of what it took.
 ghost use Rattle.std.specs.Prelude.{◌≡◌, ◌≤◌, ℕ, nat_lt, if◌then◌else◌, [], take, length, map, get_or, IfOk, None, Some, Err};
 ghost use Rattle.std.specs.List.{All, position_from};
-ghost use Rattle.stream_lists.specs.phase_accum.Sends.{AreSends};
-ghost use Rattle.stream_lists.specs.graph_base.GraphFields.{task_of};
+ghost use Rattle.phase_accum.specs.Sends.{AreSends};
+ghost use Rattle.graph_base.specs.GraphFields.{task_of};
 ghost use Rattle.stream_lists.specs.Lists.{mixed, output_list};
 ghost use Rattle.stream_lists.specs.Ranges.{is_out_of_range, list_fault};
 ghost use Rattle.stream_eval.specs.Composing.{LineMayPut};
@@ -10,8 +10,8 @@ ghost use Rattle.stream_eval.specs.Composing.{LineMayPut};
 use crate::filter_lists::FilterLists;
 use crate::list::{ListFault, every_list, fir_list, in_turn_list, mixed_list};
 use crate::taken_values::part_of;
+use graph_base::{Kind, TaskLine};
 use std::alloc::Global;
-use stream_lists::graph_base::{Kind, TaskLine};
 
 /// A copy of all values.
 fn whole_copy(alloc: Global, list: &[i64]) -> Result<Vec<i64>, ListFault>

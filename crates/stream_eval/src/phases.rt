@@ -1,14 +1,14 @@
 //! The phases of a phaser, from the members' values.
 ghost use Rattle.std.specs.Prelude.{◌≡◌, ◌≤◌, ◌<◌, ◌∷◌, [], ◌++◌, ℕ, List, length, map, IfOk};
-ghost use Rattle.stream_lists.specs.phase_base.declared.limits.TheConstants.{SENDS_MAX};
-ghost use Rattle.stream_lists.specs.phase_accum.Sends.{AreSends};
+ghost use Rattle.phase_base.specs.declared.limits.TheConstants.{SENDS_MAX};
+ghost use Rattle.phase_accum.specs.Sends.{AreSends};
 ghost use Rattle.std.specs.List.{All};
 ghost use Rattle.stream_lists.specs.Lists.{Contribution};
 ghost use Rattle.stream_eval.specs.Composing.{HasParts, member_of};
 
+use graph_base::TASKS_MAX;
+use phase_accum::Accumulate;
 use std::alloc::{AllocError, Global};
-use stream_lists::graph_base::TASKS_MAX;
-use stream_lists::phase_accum::Accumulate;
 
 /// What a task puts on a phaser: its values, from a phase on.
 #[derive(Drop)]

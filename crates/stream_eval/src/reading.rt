@@ -1,12 +1,12 @@
 //! Which lists are still read, and the end of the others.
 ghost use Rattle.std.specs.Prelude.{◌≡◌, ◌<◌, ℕ, [], length, get_or};
 ghost use Rattle.std.specs.List.{All};
-ghost use Rattle.stream_lists.specs.phase_accum.Sends.{AreSends};
+ghost use Rattle.phase_accum.specs.Sends.{AreSends};
 ghost use Rattle.stream_eval.specs.Composing.{is_read_from, list_kept, reads_from, signals_from, signals_on, sinks_on, waits_on};
 ghost use Rattle.stream_lists.specs.JobFields.{items_of};
 
+use graph_base::Kind;
 use std::alloc::Global;
-use stream_lists::graph_base::Kind;
 use stream_lists::{Job, input_number, output_number};
 
 /// Whether task number `t` signals phaser number `p`.

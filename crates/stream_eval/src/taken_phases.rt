@@ -1,10 +1,10 @@
 //! The phases that some task takes.
 ghost use Rattle.std.specs.Prelude.{◌≡◌, ◌&&◌, ◌<◌, length};
-ghost use Rattle.stream_lists.specs.graph_base.GraphFields.{task_of};
+ghost use Rattle.graph_base.specs.GraphFields.{task_of};
 ghost use Rattle.stream_lists.specs.Ranges.{is_taken, is_too_big, task_takes};
 ghost use Rattle.stream_lists.specs.Spans.{schedule_of};
 
-use stream_lists::phase_accum::Outcome;
+use phase_accum::Outcome;
 use stream_lists::{Job, input_number, taken_count};
 
 /// Whether task number `t` takes phase number `n` of phaser number `p`.

@@ -1,14 +1,14 @@
 //! What a task takes from its inputs.
 ghost use Rattle.std.specs.Prelude.{◌≡◌, ◌≤◌, ◌<◌, ◌^◌, List, ℤ, [], take, drop, length, map, get_or, IfOk};
 ghost use Rattle.std.specs.List.{All};
-ghost use Rattle.stream_lists.specs.phase_accum.Sends.{AreSends};
-ghost use Rattle.stream_lists.specs.graph_base.GraphFields.{task_of};
-ghost use Rattle.stream_lists.specs.graph_base.TaskLines.{HasEnds};
+ghost use Rattle.phase_accum.specs.Sends.{AreSends};
+ghost use Rattle.graph_base.specs.GraphFields.{task_of};
+ghost use Rattle.graph_base.specs.TaskLines.{HasEnds};
 ghost use Rattle.stream_lists.specs.JobFields.{IsShort, items_of};
 ghost use Rattle.stream_lists.specs.Lists.{taken_from, taken_by};
 
+use graph_base::TaskLine;
 use std::alloc::{AllocError, Global};
-use stream_lists::graph_base::TaskLine;
 use stream_lists::{Span, taken_count};
 
 /// So many values of a list, from a place on, as far as there are.

@@ -1,9 +1,9 @@
 //! The lists of all phasers and of all sinks.
 ghost use Rattle.std.specs.Prelude.{◌≡◌, ◌<◌, ◌∷◌, [], ℕ, length, map, get_or, IfOk, IfErr, None, Some, Err};
 ghost use Rattle.std.specs.List.{All};
-ghost use Rattle.stream_lists.specs.phase_accum.Sends.{AreSends};
-ghost use Rattle.stream_lists.specs.graph_base.Graphs.{phaser_at};
-ghost use Rattle.stream_lists.specs.graph_base.declared.place.Place.{Place as PlaceValue};
+ghost use Rattle.phase_accum.specs.Sends.{AreSends};
+ghost use Rattle.graph_base.specs.Graphs.{phaser_at};
+ghost use Rattle.graph_base.specs.declared.place.Place.{Place as PlaceValue};
 ghost use Rattle.stream_eval.specs.Results.{sink_values};
 ghost use Rattle.stream_lists.specs.JobFields.{items_of};
 ghost use Rattle.stream_lists.specs.Lists.{lines_of, list_over, number, numbers_of, sink_over, sinks_of, start_in, value_by};
@@ -18,10 +18,10 @@ use crate::numbers::reduced;
 use crate::phases::MemberList;
 use crate::reading::drop_read;
 use crate::taken_values::taken_at;
+use graph_base::Op;
+use phase_accum::{Accumulate, Any, Greatest, Least, Product, Sum};
 use std::alloc::Global;
 use stream_lists::Job;
-use stream_lists::graph_base::Op;
-use stream_lists::phase_accum::{Accumulate, Any, Greatest, Least, Product, Sum};
 
 /// The values that a sink got.
 #[derive(Debug, Drop, PartialEq, Eq)]

@@ -1,3 +1,4 @@
+mod Examples
 pub mod Lanes
 pub mod Lines
 pub mod Made

@@ -2,24 +2,24 @@
 use Rattle.std.specs.Prelude.{◌≡◌, ◌≢◌, ℕ, ℤ, ◌<◌, ◌≤◌, ◌⊎◌, ◌++◌, List, Option, Some, None, Ok, Err, length, map, take, drop, get_or, false}
 use mathlib.Core.List.{IsPrefix}
 use Rattle.graph_commands.specs.Explained.{AreFurtherLines}
-use Rattle.graph_numbers.specs.graph_lang.Reads.{ReadsText}
-use Rattle.graph_numbers.specs.graph_lang.graph_text.Texts.{lines_of as text_lines}
-use Rattle.graph_numbers.specs.graph_lang.declared.fault.FaultKind.TheVariants.{AnyMeets}
-use Rattle.graph_numbers.specs.graph_lang.declared.fault.GraphRefusal.{GraphRefusal}
-use Rattle.graph_numbers.specs.graph_lang.declared.fault.GraphRefusal.TheVariants as refusal
-use Rattle.stream_job.specs.graph_base.Graphs.{Graph, sources_of, task_at}
-use Rattle.stream_job.specs.graph_base.declared.place.Place.{Place}
-use Rattle.stream_job.specs.phase_accum.Sends.{AreSends}
-use Rattle.stream_job.specs.stream_lists.Jobs.{counted, with_samples}
-use Rattle.stream_job.specs.stream_lists.Lists.{numbers_of, sinks_of, taken_from}
-use Rattle.stream_job.specs.stream_lists.Meetings.{meeting_line}
-use Rattle.stream_job.specs.stream_lists.Ranges.{answer_of}
-use Rattle.stream_job.specs.stream_lists.Spans.{span_in}
-use Rattle.stream_job.specs.graph_runs.Beginnings.{opening}
-use Rattle.stream_job.specs.graph_runs.Feeds.{IsFed}
-use Rattle.stream_job.specs.graph_runs.Moments.{Moment, started}
-use Rattle.stream_job.specs.graph_runs.Settled.{IsFaultAt, IsReady}
-use Rattle.stream_job.specs.graph_runs.Turned.{with_at}
+use Rattle.graph_lang.specs.Reads.{ReadsText}
+use Rattle.graph_text.specs.Texts.{lines_of as text_lines}
+use Rattle.graph_lang.specs.declared.fault.FaultKind.TheVariants.{AnyMeets}
+use Rattle.graph_lang.specs.declared.fault.GraphRefusal.{GraphRefusal}
+use Rattle.graph_lang.specs.declared.fault.GraphRefusal.TheVariants as refusal
+use Rattle.graph_base.specs.Graphs.{Graph, sources_of, task_at}
+use Rattle.graph_base.specs.declared.place.Place.{Place}
+use Rattle.phase_accum.specs.Sends.{AreSends}
+use Rattle.stream_lists.specs.Jobs.{counted, with_samples}
+use Rattle.stream_lists.specs.Lists.{numbers_of, sinks_of, taken_from}
+use Rattle.stream_lists.specs.Meetings.{meeting_line}
+use Rattle.stream_lists.specs.Ranges.{answer_of}
+use Rattle.stream_lists.specs.Spans.{span_in}
+use Rattle.graph_runs.specs.Beginnings.{opening}
+use Rattle.graph_runs.specs.Feeds.{IsFed}
+use Rattle.graph_runs.specs.Moments.{Moment, started}
+use Rattle.graph_runs.specs.Settled.{IsFaultAt, IsReady}
+use Rattle.graph_runs.specs.Turned.{with_at}
 use Rattle.stream_job.specs.Machines.{kept_behind, none_given}
 use Rattle.stream_job.specs.SinkLines.{kept_by, sink_begins_at}
 use Rattle.stream_job.specs.Streams.{FeedTakes, IsSameBut, IsStreamAt, Meets, StreamState, StreamStopsAt, ended_at, ended_with, fed, has_ended, most_of, none_came}

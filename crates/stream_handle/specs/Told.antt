@@ -1,7 +1,7 @@
 -- What C is told of a run, in numbers.
 use Rattle.std.specs.Prelude.{◌≡◌, ℕ, ℤ, pos, negsuc, List, Option, Some, None, min}
-use Rattle.graph_numbers.specs.graph_lang.declared.fault.GraphRefusal.{GraphRefusal}
-use Rattle.graph_numbers.specs.graph_lang.declared.fault.GraphRefusal.TheVariants as refusal
+use Rattle.graph_lang.specs.declared.fault.GraphRefusal.{GraphRefusal}
+use Rattle.graph_lang.specs.declared.fault.GraphRefusal.TheVariants as refusal
 use Rattle.stream_job.specs.Streams.{StreamState}
 use Rattle.stream_job.specs.declared.stopped.Stopped.{Stopped}
 use Rattle.stream_job.specs.declared.stopped.Stopped.TheVariants as stopped

@@ -1,9 +1,9 @@
 //! Calls of the run of a handle.
 ghost use Rattle.std.specs.Prelude.{◌≡◌, ◌<◌, Some, IsSome, IsSomeAnd, IfOk, IfErr, OnErr, length};
 ghost use Rattle.graph_commands.specs.Explained.{AreFurtherLines};
-ghost use Rattle.stream_job.specs.graph_base.Graphs.{sources_of};
-ghost use Rattle.stream_job.specs.phase_accum.Sends.{AreSends};
-ghost use Rattle.stream_job.specs.stream_lists.Lists.{sinks_of};
+ghost use Rattle.graph_base.specs.Graphs.{sources_of};
+ghost use Rattle.phase_accum.specs.Sends.{AreSends};
+ghost use Rattle.stream_lists.specs.Lists.{sinks_of};
 ghost use Rattle.stream_job.specs.Streams.{StreamGoesOn, StreamMoves, StreamState};
 ghost use Rattle.stream_job.specs.declared.stopped.Stopped.TheVariants.{Paused};
 ghost use Rattle.stream_job.specs.declared.stream_turns.TheConstants.{ROUNDS};

@@ -1,7 +1,7 @@
 //! What C calls to feed a run, and to let it go on.
 ghost use Rattle.std.specs.Prelude.{◌≡◌, ◌≢◌, ◌≤◌, ◌<◌, ◌⊎◌, Some, None, IsSome, IsSomeAnd};
-ghost use Rattle.stream_job.specs.graph_base.Graphs.{sources_of};
-ghost use Rattle.stream_job.specs.phase_accum.Sends.{AreSends};
+ghost use Rattle.graph_base.specs.Graphs.{sources_of};
+ghost use Rattle.phase_accum.specs.Sends.{AreSends};
 ghost use Rattle.stream_job.specs.Streams.{StreamGoesOn, StreamMoves, StreamState};
 ghost use Rattle.stream_job.specs.declared.stream_turns.TheConstants.{ROUNDS};
 ghost use Rattle.stream_handle.specs.Runs.{Feeds, Finishes};
@@ -11,8 +11,8 @@ ghost use Rattle.stream_handle.specs.declared.numbers.TheConstants.{GOOD, PAUSED
 use crate::handle::Handle;
 use crate::numbers::*;
 use crate::told::{PhaseStop, stop_of};
+use phase_core::are_sends;
 use std::alloc::Global;
-use stream_job::phase_core::are_sends;
 
 /// Feeds these samples to a source, as many of them as it has room for, and writes how many it
 /// took: none, where it has ended, and none after a value out of range. Where one of them is none

@@ -17,8 +17,6 @@ mod told;
 
 pub use exports::{phase_stream_counts, phase_stream_free, phase_stream_new};
 pub use feed_exports::{phase_stream_feed, phase_stream_finish, phase_stream_run};
-pub use graph_numbers;
 pub use handle::Handle;
-pub use stream_job;
 pub use take_exports::{phase_stream_start, phase_stream_take, phase_stream_waits};
 pub use told::PhaseStop;

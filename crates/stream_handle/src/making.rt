@@ -2,8 +2,8 @@
 ghost use Rattle.std.specs.Prelude.{◌≡◌, IfOk, IfErr};
 ghost use Rattle.stream_handle.specs.Runs.{OpensText, RefusesRun};
 
+use graph_lang::{FaultKind, GraphFault, GraphRefusal, read_graph};
 use std::alloc::Global;
-use stream_job::graph_lang::{FaultKind, GraphFault, GraphRefusal, read_graph};
 use stream_job::{JobRefusal, Stream};
 
 /// The run of a graph's text, to which no samples came.

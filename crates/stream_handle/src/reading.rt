@@ -1,7 +1,7 @@
 //! The values of a sink, handed over, and what each task waits for.
 ghost use Rattle.std.specs.Prelude.{◌≡◌, ◌≤◌, ◌<◌, ◌++◌, length, drop, IfOk, IfErr, OnErr};
 ghost use Rattle.graph_commands.specs.Explained.{AreFurtherLines};
-ghost use Rattle.stream_job.specs.stream_lists.Lists.{sinks_of};
+ghost use Rattle.stream_lists.specs.Lists.{sinks_of};
 ghost use Rattle.stream_handle.specs.Runs.{HandsOver, LacksRoom};
 
 use graph_commands::stall_told;

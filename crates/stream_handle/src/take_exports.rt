@@ -1,6 +1,6 @@
 //! What C calls to read a run, and to be told how its tasks stand.
 ghost use Rattle.std.specs.Prelude.{◌≡◌, ◌≢◌, ◌≤◌, ◌<◌, ◌⊎◌, Some, None, IsSome, IsSomeAnd, length};
-ghost use Rattle.stream_job.specs.stream_lists.Lists.{sinks_of};
+ghost use Rattle.stream_lists.specs.Lists.{sinks_of};
 ghost use Rattle.stream_job.specs.Streams.{StreamState};
 ghost use Rattle.stream_handle.specs.Runs.{HandsOver, LacksRoom, WritesLines};
 ghost use Rattle.stream_handle.specs.Told.{BeginsAsTold};

@@ -3,9 +3,9 @@ ghost use Rattle.std.specs.Prelude.{◌≡◌};
 ghost use Rattle.stream_handle.specs.Told.{graph_status, graph_told, plain_stop, start_told, stop_of};
 
 use crate::numbers::*;
+use graph_lang::GraphRefusal;
 use graph_numbers::{NO_FAULT, PhaseFault, graph_fault, too_big_fault};
 use stream_job::Stopped;
-use stream_job::graph_lang::GraphRefusal;
 
 /// Why a run goes on no further; 0 where a number says nothing.
 #[repr(C)]

@@ -3,11 +3,11 @@ use Rattle.std.proofs.Common.{◌≡◌, ℕ, zero, suc, ℤ, List, ◌∷◌, �
 use Rattle.std.proofs.lemmas.List.{get_or_past}
 use Rattle.std.proofs.lemmas.List.Sums.{count_by-le-length}
 use Rattle.std.proofs.lemmas.Option.{none-some, slice_get_read}
-use Rattle.phase_any.specs.phase_accum.Sends.{AreSends}
-use Rattle.graph_lang.specs.graph_base.Graphs.{Graph, Task, is_source, source_number, sources_of, task_at}
-use Rattle.graph_lang.specs.graph_base.declared.limits.TheConstants.{TASKS_MAX}
-use Rattle.stream_eval.specs.stream_lists.Jobs.{Job, samples_in, with_samples}
-use Rattle.stream_eval.proofs.stream_lists_lemmas.Basics.{source_kind, source_within}
+use Rattle.phase_accum.specs.Sends.{AreSends}
+use Rattle.graph_base.specs.Graphs.{Graph, Task, is_source, source_number, sources_of, task_at}
+use Rattle.graph_base.specs.declared.limits.TheConstants.{TASKS_MAX}
+use Rattle.stream_lists.specs.Jobs.{Job, samples_in, with_samples}
+use Rattle.stream_lists.proofs.Basics.{source_kind, source_within}
 use Rattle.graph_runs.specs.Moments.{Moment}
 use Rattle.stream_job.specs.Machines.{IsMachineAt, MayHaveCome}
 use Rattle.stream_job.specs.Plans.{IsPlan}

@@ -5,7 +5,7 @@ use Rattle.std.specs.List.{range_with_len}
 use Rattle.std.specs.declared.vec.Vec.{Vec}
 use Rattle.std.proofs.lemmas.List.{get_or-map, length-map}
 use Rattle.std.proofs.lemmas.List.FromFn.{length-map-range_with_len}
-use Rattle.stream_eval.specs.stream_lists.JobFields.{items_of}
+use Rattle.stream_lists.specs.JobFields.{items_of}
 
 abbrev bare : ℕ → List ℤ
 bare k = []

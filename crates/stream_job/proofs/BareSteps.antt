@@ -5,21 +5,21 @@ use Rattle.std.specs.List.{position_from}
 use Rattle.std.proofs.lemmas.Bool.{lt-leb}
 use Rattle.std.proofs.lemmas.List.{length-set}
 use Rattle.std.proofs.lemmas.Option.{slice_get_read}
-use Rattle.phase_any.specs.phase_accum.Sends.{AreSends}
-use Rattle.phase_any.specs.phase_base.declared.limits.TheConstants.{PHASES_MAX}
-use Rattle.phase_any.specs.phase_accum.declared.outcome.Outcome.{Outcome}
-use Rattle.phase_any.specs.phase_history.Histories.{done_of, founder, wait_phase}
-use Rattle.phase_any.specs.phase_history.declared.event.Event.TheVariants.{Signalled, Waited}
-use Rattle.phase_any.specs.phase_history.Phases.{stream_of}
-use Rattle.graph_lang.specs.graph_base.declared.line.Kind.{Kind}
-use Rattle.graph_lang.specs.graph_base.declared.line.Kind.TheVariants.{Source, Fir, Split, Decimate, Join, Peer, Sink}
-use Rattle.graph_lang.specs.graph_base.Graphs.{Task, task_at, phaser_at, is_sink}
-use Rattle.graph_lang.specs.graph_base.Registrations.{signalled_by}
-use Rattle.graph_lang.specs.graph_base.TaskLines.{IsGraph}
-use Rattle.stream_eval.specs.stream_lists.Jobs.{Job, with_samples}
-use Rattle.stream_eval.specs.stream_lists.Lists.{number, sinks_of}
-use Rattle.stream_eval.specs.stream_lists.Meetings.{meeting_line}
-use Rattle.stream_eval.specs.stream_lists.Ranges.{Where, is_too_big}
+use Rattle.phase_accum.specs.Sends.{AreSends}
+use Rattle.phase_base.specs.declared.limits.TheConstants.{PHASES_MAX}
+use Rattle.phase_accum.specs.declared.outcome.Outcome.{Outcome}
+use Rattle.phase_history.specs.Histories.{done_of, founder, wait_phase}
+use Rattle.phase_history.specs.declared.event.Event.TheVariants.{Signalled, Waited}
+use Rattle.phase_history.specs.Phases.{stream_of}
+use Rattle.graph_base.specs.declared.line.Kind.{Kind}
+use Rattle.graph_base.specs.declared.line.Kind.TheVariants.{Source, Fir, Split, Decimate, Join, Peer, Sink}
+use Rattle.graph_base.specs.Graphs.{Task, task_at, phaser_at, is_sink}
+use Rattle.graph_base.specs.Registrations.{signalled_by}
+use Rattle.graph_base.specs.TaskLines.{IsGraph}
+use Rattle.stream_lists.specs.Jobs.{Job, with_samples}
+use Rattle.stream_lists.specs.Lists.{number, sinks_of}
+use Rattle.stream_lists.specs.Meetings.{meeting_line}
+use Rattle.stream_lists.specs.Ranges.{Where, is_too_big}
 use Rattle.graph_runs.specs.Answers as answers
 use Rattle.graph_runs.specs.Answers.{after_answer, answer_up_to, block_answer, makes, output_at, signal_answer, signal_turn, tells_up_to, told_wait, turn_up_to, values_up_to, word_of_answer}
 use Rattle.graph_runs.specs.Moments.{one, Moment, HasRun, first_input, input_at, limits_at, value_at}

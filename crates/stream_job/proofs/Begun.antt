@@ -1,23 +1,23 @@
 -- A task that waits for its next step has begun no more steps than a phaser has phases.
 use Rattle.std.proofs.Common.{◌≡◌, ℕ, ◌+◌, ◌<◌, ◌≤◌, Some, length, refl, ap, subst, ◌∙◌, arith, inl, inr}
 use Rattle.std.proofs.lemmas.List.{length-map}
-use Rattle.phase_any.specs.phase_base.declared.limits.TheConstants.{PHASES_MAX}
-use Rattle.phase_any.specs.phase_history.Histories.{done_of, top_of, phases_signalled}
-use Rattle.phase_any.specs.phase_history.Phases.{received_by}
-use Rattle.phase_any.specs.phase_history.Laws.{HasReceivedFrom}
-use Rattle.phase_any.specs.phase_history.Sent.{sent_by}
-use Rattle.phase_any.proofs.phase_history_lemmas.Left.{length-received, received_law}
-use Rattle.phase_any.proofs.phase_history_lemmas.Sendings.{length-sent_by}
-use Rattle.phase_any.proofs.phase_history_lemmas.Signallers.{below_top}
-use Rattle.phase_any.proofs.phase_history_lemmas.Steps.{done_below_top, sound_of}
-use Rattle.phase_any.proofs.phase_history_lemmas.Tops.{top_within}
-use Rattle.graph_lang.specs.graph_base.declared.line.Kind.{Kind}
-use Rattle.graph_lang.specs.graph_base.declared.line.Kind.TheVariants.{Source, Fir, Split, Decimate, Join, Peer, Sink}
-use Rattle.graph_lang.specs.graph_base.Graphs.{task_at}
-use Rattle.graph_lang.specs.graph_base.TaskLines.{IsGraph}
-use Rattle.stream_eval.specs.stream_lists.Jobs.{Job, index_in}
-use Rattle.stream_eval.specs.stream_lists.Lists.{number}
-use Rattle.stream_eval.specs.stream_lists.Spans.{signalled_by, takes_from, puts_on}
+use Rattle.phase_base.specs.declared.limits.TheConstants.{PHASES_MAX}
+use Rattle.phase_history.specs.Histories.{done_of, top_of, phases_signalled}
+use Rattle.phase_history.specs.Phases.{received_by}
+use Rattle.phase_history.specs.Laws.{HasReceivedFrom}
+use Rattle.phase_history.specs.Sent.{sent_by}
+use Rattle.phase_history.proofs.Left.{length-received, received_law}
+use Rattle.phase_history.proofs.Sendings.{length-sent_by}
+use Rattle.phase_history.proofs.Signallers.{below_top}
+use Rattle.phase_history.proofs.Steps.{done_below_top, sound_of}
+use Rattle.phase_history.proofs.Tops.{top_within}
+use Rattle.graph_base.specs.declared.line.Kind.{Kind}
+use Rattle.graph_base.specs.declared.line.Kind.TheVariants.{Source, Fir, Split, Decimate, Join, Peer, Sink}
+use Rattle.graph_base.specs.Graphs.{task_at}
+use Rattle.graph_base.specs.TaskLines.{IsGraph}
+use Rattle.stream_lists.specs.Jobs.{Job, index_in}
+use Rattle.stream_lists.specs.Lists.{number}
+use Rattle.stream_lists.specs.Spans.{signalled_by, takes_from, puts_on}
 use Rattle.graph_runs.specs.Moments.{one, Moment, HasRun, OnInput, OnOutput, PutOn, OnPhaser, TakenOn, input_at, limits_at, value_at}
 use Rattle.graph_runs.proofs.OnLines.{on_phaser}
 use Rattle.graph_runs.proofs.StepsLemmas.{has_inputs}

@@ -2,23 +2,23 @@
 use Rattle.std.proofs.Common.{◌≡◌, ◌≢◌, ℕ, List, ◌+◌, ◌-◌, ◌^◌, ◌<◌, ◌≤◌, Bool, true, false, cond, eqb, [], ◌∷◌, ◌++◌, Option, Some, None, length, get_or, slice_get, set, is_some, refl, sym, ap, subst, ◌∙◌, ◌⊎◌, inl, inr, arith, map}
 use Rattle.std.specs.Prelude.{unwrap_or, nat_lt, option_map}
 use Rattle.smallvec.specs.SmallVec.{SmallVec}
-use Rattle.phase_any.specs.phase_core.phase_registry.Rosters.{next_after}
-use Rattle.graph_lang.specs.graph_base.declared.line.Kind.TheVariants.{Source}
-use Rattle.graph_lang.specs.graph_base.declared.registration.Registration.{Registration}
-use Rattle.graph_lang.proofs.graph_base_lemmas.Registered.{registrations-phasers}
+use Rattle.phase_registry.specs.Rosters.{next_after}
+use Rattle.graph_base.specs.declared.line.Kind.TheVariants.{Source}
+use Rattle.graph_base.specs.declared.registration.Registration.{Registration}
+use Rattle.graph_base.proofs.Registered.{registrations-phasers}
 use Rattle.graph_runs.specs.Reached.{IsReachable}
 use Rattle.std.proofs.lemmas.List.{length-set, length-map, length-append, get_or-map, get_or_append_left}
 use Rattle.std.proofs.lemmas.Bool.{cases_lt, eqb-true, eq-eqb}
 use Rattle.std.proofs.lemmas.Option.{slice_get-get_or, slice_get_past, slice_get_read}
-use Rattle.phase_any.specs.phase_base.declared.mode.Mode.{Mode}
-use Rattle.phase_any.specs.phase_history.declared.refusal.RegisterRefusal.{RegisterRefusal}
-use Rattle.phase_any.specs.phase_history.Histories.{greatest_used, done_of}
-use Rattle.phase_any.specs.phase_history.Refusals.{register_refusal, register_now_refusal}
-use Rattle.graph_lang.specs.graph_base.Graphs.{task_at}
-use Rattle.graph_lang.specs.graph_base.Registrations.{no_registration}
-use Rattle.graph_lang.specs.graph_base.TaskLines.{IsGraph}
-use Rattle.stream_eval.specs.stream_lists.Jobs.{Job}
-use Rattle.stream_eval.specs.stream_lists.Lists.{sinks_of}
+use Rattle.phase_base.specs.declared.mode.Mode.{Mode}
+use Rattle.phase_history.specs.declared.refusal.RegisterRefusal.{RegisterRefusal}
+use Rattle.phase_history.specs.Histories.{greatest_used, done_of}
+use Rattle.phase_history.specs.Refusals.{register_refusal, register_now_refusal}
+use Rattle.graph_base.specs.Graphs.{task_at}
+use Rattle.graph_base.specs.Registrations.{no_registration}
+use Rattle.graph_base.specs.TaskLines.{IsGraph}
+use Rattle.stream_lists.specs.Jobs.{Job}
+use Rattle.stream_lists.specs.Lists.{sinks_of}
 use Rattle.graph_runs.specs.Moments.{Moment, HasRun, input_at, first_input}
 use Rattle.graph_runs.specs.Turned.{with_at}
 use Rattle.graph_runs.specs.Nexts.{is_live, is_due, next_of, number_on, first_due, registrations_at, registers, signals, exchanges, samples, waits}

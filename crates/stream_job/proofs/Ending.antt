@@ -4,21 +4,21 @@ use Rattle.std.specs.Prelude.{unwrap_or}
 use Rattle.std.proofs.lemmas.Bool.{lt-ltb, le-ltb, lt-leb, le-leb, eq-eqb, ne_eqb, cases_lt, or_parts}
 use Rattle.std.proofs.lemmas.List.{length-drop}
 use Rattle.std.proofs.lemmas.Option.{slice_get-get_or}
-use Rattle.phase_any.specs.phase_base.declared.entry.Entry.{Entry}
-use Rattle.phase_any.specs.phase_base.Members.{entry_of}
-use Rattle.phase_any.specs.phase_history.Histories.{members_of, has_dropped, done_of}
-use Rattle.graph_lang.specs.graph_base.Graphs.{task_at, is_source}
-use Rattle.graph_lang.specs.graph_base.TaskLines.{IsGraph}
-use Rattle.graph_lang.specs.graph_base.declared.line.Kind.{Kind}
-use Rattle.graph_lang.specs.graph_base.declared.line.Kind.TheVariants.{Source, Fir, Split, Decimate, Join, Peer, Sink}
-use Rattle.stream_eval.specs.stream_lists.Jobs.{Job, samples_at}
+use Rattle.phase_base.specs.declared.entry.Entry.{Entry}
+use Rattle.phase_base.specs.Members.{entry_of}
+use Rattle.phase_history.specs.Histories.{members_of, has_dropped, done_of}
+use Rattle.graph_base.specs.Graphs.{task_at, is_source}
+use Rattle.graph_base.specs.TaskLines.{IsGraph}
+use Rattle.graph_base.specs.declared.line.Kind.{Kind}
+use Rattle.graph_base.specs.declared.line.Kind.TheVariants.{Source, Fir, Split, Decimate, Join, Peer, Sink}
+use Rattle.stream_lists.specs.Jobs.{Job, samples_at}
 use Rattle.graph_runs.specs.Moments.{Moment, HasRun, input_at, first_input}
 use Rattle.graph_runs.specs.Nexts.{is_live, is_cut, has_input_ended, has_run_out, has_signaller, number_on, has_left, registrations_at}
 use Rattle.graph_runs.specs.TaskPlaces.{TaskPlace, StandsUpTo, registration_at, registration_of_output}
 use Rattle.graph_runs.proofs.Signalling.{live-is, stays}
 use Rattle.graph_runs.proofs.Boundaries.{goes_on}
 use Rattle.graph_runs.proofs.Standing.{of_input, of_output, many}
-use Rattle.graph_lang.specs.graph_base.Registrations.{signalled_by}
+use Rattle.graph_base.specs.Registrations.{signalled_by}
 use Rattle.graph_runs.specs.Answers.{output_at}
 use Rattle.graph_runs.proofs.Waiting.{Waiter, waiter}
 use Rattle.stream_job.specs.Machines.{is_over}

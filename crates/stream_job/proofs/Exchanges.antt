@@ -2,16 +2,16 @@
 use Rattle.std.proofs.Common.{◌≡◌, ℕ, ℤ, ◌≤◌, Bool, true, false, cond, eqb, [], ◌∷◌, ◌++◌, Some, None, length, get_or, slice_get, set, refl, sym, ap, subst, ◌∙◌}
 use Rattle.std.specs.Prelude.{Ok, Err}
 use Rattle.std.proofs.lemmas.Bool.{eqb-true}
-use Rattle.phase_any.specs.phase_accum.declared.outcome.Outcome.{Outcome}
-use Rattle.phase_any.specs.phase_history.declared.event.Event.TheVariants.{Waited}
-use Rattle.phase_any.specs.phase_history.declared.got.Got.TheVariants as got
-use Rattle.phase_any.specs.phase_history.declared.refusal.WaitRefusal.{WaitRefusal}
-use Rattle.phase_any.specs.phase_history.Replies.{wait_reply}
-use Rattle.graph_lang.specs.graph_base.declared.line.Kind.TheVariants.{Fir, Peer}
-use Rattle.graph_lang.specs.graph_base.Graphs.{task_at}
-use Rattle.graph_lang.specs.graph_base.TaskLines.{IsGraph}
-use Rattle.stream_eval.specs.stream_lists.Jobs.{Job}
-use Rattle.stream_eval.specs.stream_lists.Lists.{number}
+use Rattle.phase_accum.specs.declared.outcome.Outcome.{Outcome}
+use Rattle.phase_history.specs.declared.event.Event.TheVariants.{Waited}
+use Rattle.phase_history.specs.declared.got.Got.TheVariants as got
+use Rattle.phase_history.specs.declared.refusal.WaitRefusal.{WaitRefusal}
+use Rattle.phase_history.specs.Replies.{wait_reply}
+use Rattle.graph_base.specs.declared.line.Kind.TheVariants.{Fir, Peer}
+use Rattle.graph_base.specs.Graphs.{task_at}
+use Rattle.graph_base.specs.TaskLines.{IsGraph}
+use Rattle.stream_lists.specs.Jobs.{Job}
+use Rattle.stream_lists.specs.Lists.{number}
 use Rattle.graph_runs.specs.Moments.{Moment, HasRun, HasAnsweredNone, limits_at, value_at, input_at}
 use Rattle.graph_runs.specs.Turned.{with_at}
 use Rattle.graph_runs.specs.Nexts as turns

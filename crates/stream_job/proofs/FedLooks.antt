@@ -2,8 +2,8 @@
 use Rattle.std.proofs.Common.{◌≡◌, ℕ, ℤ, List, zero, suc, ◌+◌, ◌<◌, ◌≤◌, ◌||◌, Bool, true, false, Option, Some, None, sym, ap, subst, ◌∙◌, arith, ◌⊎◌, inl, inr}
 use Rattle.std.specs.Prelude.{is_some, nat_lt}
 use Rattle.std.proofs.lemmas.Bool.{cases_lt}
-use Rattle.stream_eval.specs.stream_lists.Jobs.{with_samples}
-use Rattle.stream_eval.specs.stream_lists.Ranges.{Where}
+use Rattle.stream_lists.specs.Jobs.{with_samples}
+use Rattle.stream_lists.specs.Ranges.{Where}
 use Rattle.graph_runs.specs.Moments.{Moment}
 use Rattle.stream_job.specs.InRange.{stands_before}
 use Rattle.stream_job.specs.Rounds.{FirstOrRest, LooksSo, first_met, of_moved}

@@ -1,8 +1,8 @@
 -- A machine stands at its moment whatever samples come behind those that were signalled.
 use Rattle.std.proofs.Common.{◌≡◌, ℕ, ℤ, ◌<◌, List, None, length, arith}
 use Rattle.std.proofs.lemmas.Option.{slice_get_within}
-use Rattle.stream_eval.specs.stream_lists.Jobs.{Job, with_samples}
-use Rattle.stream_eval.specs.stream_lists.Meetings.{meeting_line}
+use Rattle.stream_lists.specs.Jobs.{Job, with_samples}
+use Rattle.stream_lists.specs.Meetings.{meeting_line}
 use Rattle.graph_runs.specs.Feeds.{Continues}
 use Rattle.graph_runs.specs.Moments.{Moment}
 use Rattle.graph_runs.proofs.FedNexts.{stands_fed}

@@ -3,9 +3,9 @@ use Rattle.std.proofs.Common.{◌≡◌, ℕ, ℤ, List, ◌≤◌, [], ◌∷�
 use Rattle.std.specs.List.{All}
 use Rattle.std.proofs.lemmas.List.{length-append}
 use Rattle.std.proofs.lemmas.List.Elements.{All-cons, All-nil}
-use Rattle.graph_lang.specs.graph_base.TaskLines.{IsGraph}
-use Rattle.stream_eval.specs.stream_lists.Jobs.{Job, with_samples}
-use Rattle.stream_eval.specs.stream_lists.Lists.{is_sink_at}
+use Rattle.graph_base.specs.TaskLines.{IsGraph}
+use Rattle.stream_lists.specs.Jobs.{Job, with_samples}
+use Rattle.stream_lists.specs.Lists.{is_sink_at}
 use Rattle.graph_runs.specs.Answers.{after_answer, makes, turn_up_to}
 use Rattle.graph_runs.specs.Feeds.{IsOpenAt, NotStarved}
 use Rattle.graph_runs.specs.Moments.{Moment, HasAnsweredNone}

@@ -1,7 +1,7 @@
 -- What a run of a stream tells, by what was looked at.
 use Rattle.std.proofs.Common.{◌≡◌, ℕ, ℤ, List, Option, Some, None, length, sym, subst, ◌∙◌}
-use Rattle.stream_eval.specs.stream_lists.Jobs.{Job, with_samples}
-use Rattle.stream_eval.specs.stream_lists.Ranges.{Where}
+use Rattle.stream_lists.specs.Jobs.{Job, with_samples}
+use Rattle.stream_lists.specs.Ranges.{Where}
 use Rattle.graph_runs.specs.Moments.{Moment}
 use Rattle.stream_job.specs.InRange.{stands_before}
 use Rattle.stream_job.specs.Rounds.{FirstOrRest, LookedAt, StandsSome, StopsSo, met_in}

@@ -1,14 +1,14 @@
 -- A value out of range before which a task stands is a fault, whatever samples come behind.
 use Rattle.std.proofs.Common.{◌≡◌, ◌≢◌, ℕ, ℤ, List, ◌<◌, ◌≤◌, ◌∷◌, [], Bool, true, false, cond, Option, Some, None, length, take, refl, sym, ap, subst, ◌∙◌, arith, ◌⊎◌, inl, inr}
 use Rattle.std.proofs.lemmas.Option.{same_Some}
-use Rattle.phase_any.specs.phase_accum.declared.outcome.Outcome.{Outcome}
-use Rattle.phase_any.specs.phase_history.declared.event.Event.TheVariants.{Waited}
-use Rattle.phase_any.specs.phase_history.Histories.{has_dropped}
-use Rattle.graph_lang.specs.graph_base.declared.line.Kind.TheVariants.{Source}
-use Rattle.graph_lang.specs.graph_base.Graphs.{task_at}
-use Rattle.graph_lang.specs.graph_base.TaskLines.{IsGraph}
-use Rattle.stream_eval.specs.stream_lists.Jobs.{Job, samples_at, samples_in, with_samples}
-use Rattle.stream_eval.specs.stream_lists.Ranges.{Where}
+use Rattle.phase_accum.specs.declared.outcome.Outcome.{Outcome}
+use Rattle.phase_history.specs.declared.event.Event.TheVariants.{Waited}
+use Rattle.phase_history.specs.Histories.{has_dropped}
+use Rattle.graph_base.specs.declared.line.Kind.TheVariants.{Source}
+use Rattle.graph_base.specs.Graphs.{task_at}
+use Rattle.graph_base.specs.TaskLines.{IsGraph}
+use Rattle.stream_lists.specs.Jobs.{Job, samples_at, samples_in, with_samples}
+use Rattle.stream_lists.specs.Ranges.{Where}
 use Rattle.graph_runs.specs.Answers.{Answer, Blocked, Ended, Gone, Moved, Told, TooBig, after_answer, has_made, is_blocked, is_gone, is_refused, makes, tells_up_to, told_event, turn_up_to, word_of_answer}
 use Rattle.graph_runs.specs.Feeds.{Continues}
 use Rattle.graph_runs.specs.Moments.{Moment, MayStop, at_until, no_input, no_sample, started}

@@ -4,16 +4,16 @@ use Rattle.std.specs.Prelude.{◌||◌, ◌==◌, Option, is_some, if◌then◌e
 use Rattle.std.proofs.lemmas.Bool.{eqb-true, eq-eqb, or_parts}
 use Rattle.std.proofs.lemmas.List.{length-set}
 use Rattle.std.proofs.lemmas.Option.{slice_get_within, slice_get_read, slice_get-get_or}
-use Rattle.graph_lang.specs.graph_base.Graphs.{task_at, source_number, sources_of}
-use Rattle.graph_lang.specs.graph_base.declared.line.Kind.TheVariants.{Source}
-use Rattle.stream_eval.specs.stream_lists.Jobs.{Job, samples_in, with_samples}
-use Rattle.stream_eval.specs.stream_lists.Ranges.{Where}
+use Rattle.graph_base.specs.Graphs.{task_at, source_number, sources_of}
+use Rattle.graph_base.specs.declared.line.Kind.TheVariants.{Source}
+use Rattle.stream_lists.specs.Jobs.{Job, samples_in, with_samples}
+use Rattle.stream_lists.specs.Ranges.{Where}
 use Rattle.graph_runs.specs.Moments.{Moment}
 use Rattle.graph_runs.proofs.FedFeeds.{feed_continues}
 use Rattle.stream_job.specs.Streams.{StreamState, AreInputs, AreKept, IsApart, IsInputOf, IsStreamAt, HasInputRoom, FeedTakes, InputKeeps, feed_takes, ended_at, fed, has_ended}
 use Rattle.stream_job.specs.declared.input.Input.{Input}
 use Rattle.stream_job.specs.declared.task_state.TaskState.{TaskState}
-use Rattle.stream_eval.specs.stream_lists.declared.sample_counts.TheConstants.{COUNT_MAX}
+use Rattle.stream_lists.specs.declared.sample_counts.TheConstants.{COUNT_MAX}
 use Rattle.stream_job.proofs.Feeding.{ended_found, ended_stays, ended_then, is_fed, one_source, samples_fed, samples_others, source-within}
 use Rattle.stream_job.proofs.FedMachines.{machine_fed}
 use Rattle.stream_job.proofs.Setting.{slice_get-set_same, slice_get-set_other}

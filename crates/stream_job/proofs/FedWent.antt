@@ -3,7 +3,7 @@ use Rattle.std.proofs.Common.{◌≡◌, ℕ, ℤ, List, ◌≤◌, ◌||◌, �
 use Rattle.std.specs.Prelude.{Result, Ok, Err}
 use Rattle.std.specs.List.{All}
 use Rattle.std.proofs.lemmas.List.Elements.{All-cons, All-nil}
-use Rattle.stream_eval.specs.stream_lists.Jobs.{Job, with_samples}
+use Rattle.stream_lists.specs.Jobs.{Job, with_samples}
 use Rattle.graph_runs.specs.Answers.{turn_up_to}
 use Rattle.graph_runs.specs.Feeds.{IsOpenAt, NotStarved}
 use Rattle.graph_runs.specs.Moments.{Moment}

@@ -7,17 +7,17 @@ use Rattle.std.proofs.lemmas.Bool.{eqb-true, eq-eqb, ltb-true, ltb-false}
 use Rattle.std.proofs.lemmas.List.{length-append, length-set, append-nil, set-get_or, get_or-set_same, get_or-set_other, drop-append-le, take-take}
 use Rattle.std.proofs.lemmas.List.Sums.{count_by_more_yes}
 use Rattle.std.proofs.lemmas.Option.{same_Some, slice_get_within, slice_get-get_or}
-use Rattle.phase_any.specs.phase_accum.Sends.{AreSends}
-use Rattle.phase_any.proofs.phase_accum_lemmas.Parts.{AreSends-append}
-use Rattle.graph_lang.specs.graph_base.Graphs.{Graph, Task, no_task, task_at, is_source, source_number, sources_of}
-use Rattle.graph_lang.specs.graph_base.declared.line.Kind.TheVariants.{Source}
-use Rattle.stream_eval.specs.stream_lists.Jobs.{Job, samples_in, with_samples}
+use Rattle.phase_accum.specs.Sends.{AreSends}
+use Rattle.phase_accum.proofs.Parts.{AreSends-append}
+use Rattle.graph_base.specs.Graphs.{Graph, Task, no_task, task_at, is_source, source_number, sources_of}
+use Rattle.graph_base.specs.declared.line.Kind.TheVariants.{Source}
+use Rattle.stream_lists.specs.Jobs.{Job, samples_in, with_samples}
 use Rattle.graph_runs.specs.Feeds.{IsFed}
 use Rattle.graph_runs.proofs.Entries.{IsPrefix-refl}
 use Rattle.stream_job.specs.Streams.{InputKeeps, fed, has_ended, ended_with}
 use Rattle.stream_job.specs.declared.input.Input.{Input}
-use Rattle.stream_eval.specs.stream_lists.declared.sample_counts.TheConstants.{COUNT_MAX}
-use Rattle.stream_eval.proofs.stream_lists_lemmas.Basics.{count_by-take}
+use Rattle.stream_lists.specs.declared.sample_counts.TheConstants.{COUNT_MAX}
+use Rattle.stream_lists.proofs.Basics.{count_by-take}
 
 -- ---- inputs
 

@@ -3,19 +3,18 @@ use Rattle.std.proofs.Common.{◌≡◌, ◌≢◌, ◌⊎◌, inl, inr, ℕ, ze
 use Rattle.std.specs.Prelude.{Ok, Err, Option, Result, drop, nat_le, not, take, unsigned_abs, if◌then◌else◌}
 use Rattle.std.proofs.lemmas.List.{length-take, map-append, take-take, take_all}
 use Rattle.std.proofs.Math.Seq.{take-add}
-use Rattle.graph_lang.specs.graph_base.Graphs.{Task}
-use Rattle.graph_lang.specs.stream_filters.declared.fault.TooBigValue.{TooBigValue}
-use Rattle.graph_lang.specs.stream_filters.declared.form.Form.{Form}
-use Rattle.graph_lang.specs.stream_filters.Filter.{FirState, output_after}
-use Rattle.graph_lang.specs.stream_filters.Range.{before_out_of_range, is_out_of_range, ranged}
-use Rattle.graph_lang.proofs.graph_base_lemmas.stream_filters_lemmas.Stepped.{before-cons}
+use Rattle.graph_base.specs.Graphs.{Task}
+use Rattle.stream_filters.specs.declared.fault.TooBigValue.{TooBigValue}
+use Rattle.stream_filters.specs.declared.form.Form.{Form}
+use Rattle.stream_filters.specs.Filter.{FirState, output_after}
+use Rattle.stream_filters.specs.Range.{before_out_of_range, is_out_of_range, ranged}
+use Rattle.stream_filters.proofs.Stepped.{before-cons, length-outputs_of_block, outputs_of_block-append, ranged-all}
 use Rattle.graph_runs.specs.Steps.{HasFilter}
 use Rattle.graph_runs.specs.TaskPlaces.{outputs_of_block}
-use Rattle.phase_any.specs.phase_accum.declared.outcome.Outcome.{Outcome}
-use Rattle.stream_eval.specs.stream_lists.Lists.{number}
+use Rattle.phase_accum.specs.declared.outcome.Outcome.{Outcome}
+use Rattle.stream_lists.specs.Lists.{number}
 use Rattle.stream_job.specs.Filtering.{HasFiltered}
-use Rattle.stream_job.proofs.stream_lists_lemmas.stream_filters_lemmas.Made.{ranged-fits}
-use Rattle.stream_job.proofs.stream_lists_lemmas.stream_filters_lemmas.Stepped.{length-outputs_of_block, outputs_of_block-append, ranged-all}
+use Rattle.stream_filters.proofs.Made.{ranged-fits}
 
 pub filtered_none : (task : Task) (filter : Option FirState) (made : List (Result ℤ TooBigValue))
     → HasFiltered task [] filter filter made made

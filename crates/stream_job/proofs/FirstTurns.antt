@@ -5,27 +5,27 @@ use Rattle.std.specs.List.{All}
 use Rattle.std.proofs.lemmas.List.{length-map}
 use Rattle.std.proofs.lemmas.Option.{slice_get_within}
 use Rattle.std.proofs.lemmas.Bool.{eq-eqb}
-use Rattle.phase_any.specs.phase_accum.declared.outcome.Outcome.{Outcome}
-use Rattle.phase_any.specs.phase_history.declared.event.Event.TheVariants.{Waited}
-use Rattle.phase_any.specs.phase_history.declared.got.GotBlock.TheVariants as block
-use Rattle.phase_any.specs.phase_history.declared.refusal.WaitRefusal.{WaitRefusal}
-use Rattle.phase_any.specs.phase_history.Histories.{done_of}
-use Rattle.phase_any.specs.phase_base.declared.limits.TheConstants.{PHASES_MAX}
-use Rattle.phase_any.specs.phase_history.Phases.{stream_of}
-use Rattle.phase_any.specs.phase_history.Replies.{wait_block_reply}
-use Rattle.graph_lang.specs.graph_base.declared.line.Kind.TheVariants.{Source, Fir, Split, Decimate, Join, Peer, Sink}
-use Rattle.graph_lang.specs.graph_base.declared.line.Kind.{Kind}
-use Rattle.graph_lang.specs.graph_base.Graphs.{Task, task_at}
-use Rattle.graph_lang.specs.graph_base.TaskLines.{IsGraph}
-use Rattle.stream_eval.specs.stream_lists.Jobs.{Job}
-use Rattle.stream_eval.specs.stream_lists.Lists.{number, sinks_of, is_sink_at}
-use Rattle.stream_eval.proofs.stream_lists_lemmas.Basics.{sink_kind}
+use Rattle.phase_accum.specs.declared.outcome.Outcome.{Outcome}
+use Rattle.phase_history.specs.declared.event.Event.TheVariants.{Waited}
+use Rattle.phase_history.specs.declared.got.GotBlock.TheVariants as block
+use Rattle.phase_history.specs.declared.refusal.WaitRefusal.{WaitRefusal}
+use Rattle.phase_history.specs.Histories.{done_of}
+use Rattle.phase_base.specs.declared.limits.TheConstants.{PHASES_MAX}
+use Rattle.phase_history.specs.Phases.{stream_of}
+use Rattle.phase_history.specs.Replies.{wait_block_reply}
+use Rattle.graph_base.specs.declared.line.Kind.TheVariants.{Source, Fir, Split, Decimate, Join, Peer, Sink}
+use Rattle.graph_base.specs.declared.line.Kind.{Kind}
+use Rattle.graph_base.specs.Graphs.{Task, task_at}
+use Rattle.graph_base.specs.TaskLines.{IsGraph}
+use Rattle.stream_lists.specs.Jobs.{Job}
+use Rattle.stream_lists.specs.Lists.{number, sinks_of, is_sink_at}
+use Rattle.stream_lists.proofs.Basics.{sink_kind}
 use Rattle.graph_runs.specs.Moments.{Moment, HasRun, HasAnsweredNone, limits_at, value_at, first_input}
 use Rattle.graph_runs.specs.Moves.{further, IsBlock}
 use Rattle.graph_runs.proofs.Blocks.{block_few}
 use Rattle.graph_runs.proofs.Stepping.{owes_nothing}
-use Rattle.graph_lang.specs.stream_filters.declared.fault.TooBigValue.{TooBigValue}
-use Rattle.graph_runs.specs.NextBlocks.{block_up_to}
+use Rattle.stream_filters.specs.declared.fault.TooBigValue.{TooBigValue}
+use Rattle.graph_runs.specs.NextBlocks.{block_up_to, MaySize}
 use Rattle.graph_runs.proofs.Nexts.{further-length}
 use Rattle.graph_runs.specs.Turned.{with_at}
 use Rattle.graph_runs.specs.Nexts as turns
@@ -41,7 +41,6 @@ use Rattle.graph_runs.proofs.FirstWaits.{first_wait_follows}
 use Rattle.graph_runs.specs.Steps.{HasFilter}
 use Rattle.graph_runs.specs.declared.owed.Owed.{Owed}
 use Rattle.graph_runs.specs.declared.owed.Owed.TheVariants as code
-use Rattle.graph_runs.specs.NextBlocks.{MaySize}
 use Rattle.stream_job.specs.Stepping.{with_more}
 use Rattle.stream_job.specs.Places.{place_in_state, owed_in, MaySignal, StateHasTaken}
 use Rattle.stream_job.specs.Machines.{IsMachineAt, HasCores, KeepsLines, HasRoom, kept_behind, most_in}

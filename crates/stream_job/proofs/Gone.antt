@@ -2,24 +2,24 @@
 use Rattle.std.proofs.Common.{◌≡◌, ℕ, ◌<◌, ◌≤◌, ◌&&◌, All, Bool, true, false, not, eqb, [], ◌∷◌, Option, Some, None, is_some, length, refl, sym, ap, subst, ◌∙◌, arith, nat_lt, get_or}
 use Rattle.std.specs.Prelude.{unwrap_or}
 use Rattle.std.proofs.lemmas.Bool.{eqb-true, ltb-false, lt-ltb}
-use Rattle.phase_any.specs.phase_accum.declared.outcome.Outcome.{Outcome}
-use Rattle.phase_any.specs.phase_base.Limits.{Limits}
-use Rattle.phase_any.specs.phase_base.declared.entry.Entry.{Entry}
-use Rattle.phase_any.specs.phase_base.Members.{entry_of}
-use Rattle.phase_any.specs.phase_history.declared.event.Event.TheVariants.{Made, Registered, RegisteredNow, Signalled, Waited, Dropped}
-use Rattle.phase_any.specs.phase_history.Histories.{History, has_dropped, members_of}
-use Rattle.phase_any.specs.phase_history.Legal.{IsLegal}
-use Rattle.phase_any.specs.phase_history.Phases.{received_by}
-use Rattle.phase_any.specs.phase_history.Refusals.{wait_refusal}
-use Rattle.phase_any.specs.phase_history.declared.refusal.WaitRefusal.TheVariants.{NoTask}
-use Rattle.phase_any.proofs.phase_history_lemmas.Alive.{alive_law}
-use Rattle.graph_lang.specs.graph_base.Graphs.{task_at}
-use Rattle.graph_lang.specs.graph_base.TaskLines.{IsGraph}
-use Rattle.graph_lang.specs.graph_base.declared.line.Kind.TheVariants.{Sink}
-use Rattle.stream_eval.specs.stream_lists.Jobs.{Job}
-use Rattle.stream_eval.specs.stream_lists.Lists.{number, numbers_of, taken_from}
-use Rattle.stream_eval.specs.stream_lists.Ranges.{Where, is_too_big}
-use Rattle.stream_eval.specs.stream_lists.Spans.{span_in, takes_from}
+use Rattle.phase_accum.specs.declared.outcome.Outcome.{Outcome}
+use Rattle.phase_base.specs.Limits.{Limits}
+use Rattle.phase_base.specs.declared.entry.Entry.{Entry}
+use Rattle.phase_base.specs.Members.{entry_of}
+use Rattle.phase_history.specs.declared.event.Event.TheVariants.{Made, Registered, RegisteredNow, Signalled, Waited, Dropped}
+use Rattle.phase_history.specs.Histories.{History, has_dropped, members_of}
+use Rattle.phase_history.specs.Legal.{IsLegal}
+use Rattle.phase_history.specs.Phases.{received_by}
+use Rattle.phase_history.specs.Refusals.{wait_refusal}
+use Rattle.phase_history.specs.declared.refusal.WaitRefusal.TheVariants.{NoTask}
+use Rattle.phase_history.proofs.Alive.{alive_law}
+use Rattle.graph_base.specs.Graphs.{task_at}
+use Rattle.graph_base.specs.TaskLines.{IsGraph}
+use Rattle.graph_base.specs.declared.line.Kind.TheVariants.{Sink}
+use Rattle.stream_lists.specs.Jobs.{Job}
+use Rattle.stream_lists.specs.Lists.{number, numbers_of, taken_from}
+use Rattle.stream_lists.specs.Ranges.{Where, is_too_big}
+use Rattle.stream_lists.specs.Spans.{span_in, takes_from}
 use Rattle.graph_runs.specs.Moments.{Moment, AnsweredNone, AnsweredNoneBefore, HasRun, OnInput, TakenOn, input_at, limits_at, started, value_at}
 use Rattle.graph_runs.specs.Nexts.{first_kept, first_missing, has_left, is_live, number_on}
 use Rattle.graph_runs.specs.Settled.{IsReady, Stands}

@@ -1,26 +1,25 @@
 -- The turn of a filter that signals what it has made before a value out of range.
 use Rattle.std.proofs.Common.{◌≡◌, ◌≢◌, ℕ, ℤ, List, zero, suc, ◌+◌, ◌-◌, ◌<◌, ◌≤◌, ◌||◌, Bool, true, false, cond, eqb, [], ◌∷◌, Option, Some, None, length, get_or, slice_get, set, map, take, drop, take-take, refl, sym, ap, subst, ◌∙◌, arith, length-append}
 use Rattle.std.specs.Prelude.{Result, Ok, Err}
-use Rattle.std.specs.List.{position_from}
+use Rattle.std.specs.List.{position_from, drop-map}
 use Rattle.std.specs.declared.vec.Vec.{Vec}
 use Rattle.std.specs.Global.{Global}
 use Rattle.std.proofs.lemmas.Bool.{eq-eqb, eqb-true, or_right}
 use Rattle.std.proofs.lemmas.List.{drop-drop, length-drop, length-map, length-take-le, take-map}
-use Rattle.std.specs.List.{drop-map}
 use Rattle.std.proofs.lemmas.Option.{same_Some}
-use Rattle.phase_any.specs.phase_accum.Sends.{AreSends}
-use Rattle.phase_any.specs.phase_history.declared.event.Event.TheVariants.{Signalled}
-use Rattle.phase_any.specs.phase_history.declared.refusal.SignalRefusal.{SignalRefusal}
-use Rattle.graph_lang.specs.stream_filters.Range.{ranged}
-use Rattle.graph_lang.specs.stream_filters.declared.fault.TooBigValue.{TooBigValue}
-use Rattle.graph_lang.specs.graph_base.declared.line.Kind.{Kind}
-use Rattle.graph_lang.specs.graph_base.declared.line.Kind.TheVariants.{Fir}
-use Rattle.graph_lang.specs.graph_base.declared.place.Place.TheVariants as place
-use Rattle.graph_lang.specs.graph_base.Graphs.{phaser_at, task_at}
-use Rattle.graph_lang.specs.graph_base.Registrations.{signalled_by}
-use Rattle.graph_lang.specs.graph_base.TaskLines.{IsGraph}
-use Rattle.stream_eval.specs.stream_lists.Jobs.{Job}
-use Rattle.stream_eval.specs.stream_lists.Ranges.{are_made, is_out_of_range}
+use Rattle.phase_accum.specs.Sends.{AreSends}
+use Rattle.phase_history.specs.declared.event.Event.TheVariants.{Signalled}
+use Rattle.phase_history.specs.declared.refusal.SignalRefusal.{SignalRefusal}
+use Rattle.stream_filters.specs.Range.{ranged}
+use Rattle.stream_filters.specs.declared.fault.TooBigValue.{TooBigValue}
+use Rattle.graph_base.specs.declared.line.Kind.{Kind}
+use Rattle.graph_base.specs.declared.line.Kind.TheVariants.{Fir}
+use Rattle.graph_base.specs.declared.place.Place.TheVariants as place
+use Rattle.graph_base.specs.Graphs.{phaser_at, task_at}
+use Rattle.graph_base.specs.Registrations.{signalled_by}
+use Rattle.graph_base.specs.TaskLines.{IsGraph}
+use Rattle.stream_lists.specs.Jobs.{Job}
+use Rattle.stream_lists.specs.Ranges.{are_made, is_out_of_range}
 use Rattle.graph_runs.specs.Answers as answers
 use Rattle.graph_runs.specs.Answers.{answer_up_to, is_blocked, makes, output_at, signal_answer, signal_turn, turn_up_to, values_up_to, was_blocked, word_of_answer}
 use Rattle.graph_runs.specs.Moments.{one, Moment, HasRun, limits_at, made_now}

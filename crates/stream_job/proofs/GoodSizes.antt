@@ -2,10 +2,10 @@
 use Rattle.std.proofs.Common.{◌≡◌, ℕ, List, ◌≤◌, false, [], ◌∷◌, ◌-◌, length, get_or, refl, ap, ◌∙◌, arith, cond, Bool, true, eqb, ◌&&◌}
 use Rattle.std.specs.Prelude.{Option, Some, None, min, nat_lt}
 use Rattle.std.specs.List.{All, fold, range_with_len}
-use Rattle.graph_lang.specs.graph_base.declared.line.Parent.{Parent}
-use Rattle.graph_lang.specs.graph_base.Graphs.{Graph, phaser_at, task_at}
-use Rattle.graph_lang.specs.graph_base.TaskLines.{HasBlock}
-use Rattle.stream_eval.specs.stream_lists.Jobs.{Job}
+use Rattle.graph_base.specs.declared.line.Parent.{Parent}
+use Rattle.graph_base.specs.Graphs.{Graph, phaser_at, task_at}
+use Rattle.graph_base.specs.TaskLines.{HasBlock}
+use Rattle.stream_lists.specs.Jobs.{Job}
 use Rattle.graph_runs.specs.Moments.{Moment}
 use Rattle.graph_runs.specs.NextBlocks.{MaySize, block_up_to, child_allows, until_allows, with_block}
 use Rattle.stream_job.specs.Machines.{most_in}

@@ -6,27 +6,27 @@ use Rattle.std.proofs.Math.Seq.{drop-cons}
 use Rattle.std.proofs.lemmas.Bool.{lt-ltb}
 use Rattle.std.proofs.lemmas.List.{length-map}
 use Rattle.std.proofs.lemmas.List.FromFn.{get_or-map-range_with_len, length-range_with_len}
-use Rattle.phase_any.specs.phase_accum.declared.outcome.Outcome.{Outcome}
-use Rattle.phase_any.specs.phase_accum.declared.outcome.Outcome.TheVariants as outcome
-use Rattle.phase_any.specs.phase_core.Blocks.{after_in_range, before_too_big, is_not_too_big}
-use Rattle.phase_any.specs.phase_history.declared.event.Event.TheVariants.{Waited}
-use Rattle.phase_any.specs.phase_history.declared.got.Got.TheVariants as got
-use Rattle.phase_any.specs.phase_history.declared.got.GotBlock.{GotBlock}
-use Rattle.phase_any.specs.phase_history.declared.got.GotBlock.TheVariants as block
-use Rattle.phase_any.specs.phase_history.declared.refusal.WaitRefusal.{WaitRefusal}
-use Rattle.phase_any.specs.phase_history.Histories.{History, done_of, wait_phase}
-use Rattle.phase_any.specs.phase_history.Phases.{stream_of, value_of_phase}
-use Rattle.phase_any.specs.phase_history.Refusals.{wait_refusal}
-use Rattle.phase_any.specs.phase_history.Replies.{got_at, got_block_at, refused_or, wait_block_reply, wait_reply}
-use Rattle.phase_any.specs.phase_base.Limits.{Limits}
-use Rattle.phase_any.proofs.phase_core_lemmas.InRangeBlocks.{in_range-few}
-use Rattle.graph_runs.proofs.phase_history_lemmas.BlockAnswers.{block_answers_law, block_tells}
-use Rattle.graph_lang.specs.graph_base.declared.place.Place.TheVariants as place
-use Rattle.stream_eval.specs.stream_lists.Jobs.{Job}
-use Rattle.stream_eval.specs.stream_lists.Lists.{is_sink_at}
-use Rattle.stream_eval.specs.stream_lists.Ranges.{is_too_big}
+use Rattle.phase_accum.specs.declared.outcome.Outcome.{Outcome}
+use Rattle.phase_accum.specs.declared.outcome.Outcome.TheVariants as outcome
+use Rattle.phase_core.specs.Blocks.{after_in_range, before_too_big, is_not_too_big}
+use Rattle.phase_history.specs.declared.event.Event.TheVariants.{Waited}
+use Rattle.phase_history.specs.declared.got.Got.TheVariants as got
+use Rattle.phase_history.specs.declared.got.GotBlock.{GotBlock}
+use Rattle.phase_history.specs.declared.got.GotBlock.TheVariants as block
+use Rattle.phase_history.specs.declared.refusal.WaitRefusal.{WaitRefusal}
+use Rattle.phase_history.specs.Histories.{History, done_of, wait_phase}
+use Rattle.phase_history.specs.Phases.{stream_of, value_of_phase}
+use Rattle.phase_history.specs.Refusals.{wait_refusal}
+use Rattle.phase_history.specs.Replies.{got_at, got_block_at, refused_or, wait_block_reply, wait_reply}
+use Rattle.phase_base.specs.Limits.{Limits}
+use Rattle.phase_core.proofs.InRangeBlocks.{in_range-few}
+use Rattle.phase_history.proofs.BlockAnswers.{block_answers_law, block_tells}
+use Rattle.graph_base.specs.declared.place.Place.TheVariants as place
+use Rattle.stream_lists.specs.Jobs.{Job}
+use Rattle.stream_lists.specs.Lists.{is_sink_at}
+use Rattle.stream_lists.specs.Ranges.{is_too_big}
 use Rattle.graph_runs.specs.Answers as answers
-use Rattle.graph_lang.specs.graph_base.Graphs.{task_at}
+use Rattle.graph_base.specs.Graphs.{task_at}
 use Rattle.graph_runs.specs.Answers.{answer_up_to, block_answer, makes, tells_up_to, told_got, turn_up_to, wait_answer, word_of_answer}
 use Rattle.graph_runs.specs.Moments.{Moment, input_at, limits_at, value_at}
 use Rattle.graph_runs.specs.NextBlocks.{MaySize}

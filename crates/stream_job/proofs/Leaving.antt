@@ -1,8 +1,8 @@
 -- The turn of a task that leaves.
 use Rattle.std.proofs.Common.{◌≡◌, ℕ, List, suc, ◌+◌, ◌<◌, cond, Some, None, ◌∷◌, length, get_or, slice_get, nat_lt, set, refl, sym, ap, subst, ◌∙◌, arith}
-use Rattle.phase_any.specs.phase_history.declared.event.Event.TheVariants.{Dropped}
-use Rattle.phase_any.specs.phase_history.Refusals.{drop_refusal}
-use Rattle.stream_eval.specs.stream_lists.Jobs.{Job}
+use Rattle.phase_history.specs.declared.event.Event.TheVariants.{Dropped}
+use Rattle.phase_history.specs.Refusals.{drop_refusal}
+use Rattle.stream_lists.specs.Jobs.{Job}
 use Rattle.graph_runs.specs.Moments.{Moment}
 use Rattle.graph_runs.specs.Turned.{with_at}
 use Rattle.graph_runs.specs.Nexts as turns
@@ -23,7 +23,7 @@ use Rattle.stream_job.specs.declared.turned.Turned.{Turned}
 use Rattle.stream_job.proofs.LinesAfter.{quiet_lines, same_rooms}
 use Rattle.stream_job.proofs.Lively.{LeavesAt, leaves_at, leaves_now}
 use Rattle.stream_job.proofs.Setting.{read_same}
-use Rattle.phase_any.specs.phase_history.declared.refusal.NoTask.{NoTask}
+use Rattle.phase_history.specs.declared.refusal.NoTask.{NoTask}
 use Rattle.stream_job.proofs.Reading.{live_by}
 use Rattle.stream_job.proofs.Events.{after_own}
 use Rattle.stream_job.proofs.Mosts.{mosts_set}

@@ -3,13 +3,13 @@ use Rattle.std.proofs.Common.{◌≡◌, ◌≢◌, ℕ, Bool, true, false, not,
 use Rattle.std.specs.List.{range_with_len}
 use Rattle.std.proofs.lemmas.Bool.{eqb-true, eq-eqb, ne_eqb}
 use Rattle.std.proofs.lemmas.Option.{same_Some}
-use Rattle.phase_any.specs.phase_base.declared.mode.Mode.{Mode}
-use Rattle.phase_any.specs.phase_history.declared.event.Event.{Event}
-use Rattle.phase_any.specs.phase_history.declared.event.Event.TheVariants.{Signalled, Waited, Dropped}
-use Rattle.graph_lang.specs.graph_base.declared.line.Parent.{Parent}
-use Rattle.graph_lang.specs.graph_base.Graphs.{task_at, phaser_at}
-use Rattle.stream_eval.specs.stream_lists.Jobs.{Job}
-use Rattle.stream_eval.proofs.stream_lists_lemmas.Basics.{find-same}
+use Rattle.phase_base.specs.declared.mode.Mode.{Mode}
+use Rattle.phase_history.specs.declared.event.Event.{Event}
+use Rattle.phase_history.specs.declared.event.Event.TheVariants.{Signalled, Waited, Dropped}
+use Rattle.graph_base.specs.declared.line.Parent.{Parent}
+use Rattle.graph_base.specs.Graphs.{task_at, phaser_at}
+use Rattle.stream_lists.specs.Jobs.{Job}
+use Rattle.stream_lists.proofs.Basics.{find-same}
 use Rattle.graph_runs.specs.Moments.{one, Moment}
 use Rattle.graph_runs.specs.Moves.{HasMoved, SameTask, Registers, RegistersNow}
 use Rattle.graph_runs.proofs.InBlocks.{next_samples_are, next_signals_are, first_waits_are}

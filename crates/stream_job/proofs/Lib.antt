@@ -56,8 +56,6 @@ pub mod BareLists
 pub mod StandLists
 pub mod OpenedInputs
 pub mod OpenedStreams
-pub use Rattle.graph_runs.proofs as graph_runs_lemmas
-pub use Rattle.stream_eval.proofs.stream_lists_lemmas as stream_lists_lemmas
 pub mod GoodSizes
 pub mod WentTurns
 pub mod GoodSignals

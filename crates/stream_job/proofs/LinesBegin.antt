@@ -3,13 +3,13 @@ use Rattle.std.proofs.Common.{◌≡◌, ◌≢◌, ℕ, ℤ, Bool, true, false,
 use mathlib.Core.List.{IsPrefix}
 use Rattle.std.proofs.lemmas.Bool.{eqb-true, eq-eqb}
 use Rattle.std.proofs.lemmas.List.{append-nil, append_assoc}
-use Rattle.phase_any.specs.phase_accum.declared.outcome.Outcome.{Outcome}
-use Rattle.graph_lang.specs.graph_base.declared.line.Kind.TheVariants.{Sink}
-use Rattle.graph_lang.specs.graph_base.Graphs.{is_sink, task_at}
-use Rattle.stream_eval.specs.stream_lists.Jobs.{Job}
-use Rattle.stream_eval.specs.stream_lists.Lists.{is_sink_at, number}
-use Rattle.stream_eval.specs.stream_lists.Ranges.{Where}
-use Rattle.stream_eval.proofs.stream_lists_lemmas.Basics.{sink_kind}
+use Rattle.phase_accum.specs.declared.outcome.Outcome.{Outcome}
+use Rattle.graph_base.specs.declared.line.Kind.TheVariants.{Sink}
+use Rattle.graph_base.specs.Graphs.{is_sink, task_at}
+use Rattle.stream_lists.specs.Jobs.{Job}
+use Rattle.stream_lists.specs.Lists.{is_sink_at, number}
+use Rattle.stream_lists.specs.Ranges.{Where}
+use Rattle.stream_lists.proofs.Basics.{sink_kind}
 use Rattle.graph_runs.specs.Moments.{Moment, HasAnsweredNone}
 use Rattle.graph_runs.specs.TaskEvents.{TaskEvent, IsNext, sample, signal, first_wait, exchange_wait, leave, child, child_now, after_turn}
 use Rattle.graph_runs.specs.Answers.{Answer, makes, is_blocked, is_gone, has_made, is_refused, after_answer, turn_up_to}

@@ -1,7 +1,7 @@
 -- What is so of the event that a turn makes.
 use Rattle.std.proofs.Common.{◌≡◌, ℕ}
-use Rattle.graph_lang.specs.graph_base.TaskLines.{IsGraph}
-use Rattle.stream_eval.specs.stream_lists.Jobs.{Job}
+use Rattle.graph_base.specs.TaskLines.{IsGraph}
+use Rattle.stream_lists.specs.Jobs.{Job}
 use Rattle.graph_runs.specs.Moments.{Moment}
 use Rattle.graph_runs.specs.TaskEvents.{TaskEvent, IsNext}
 use Rattle.graph_runs.specs.Answers.{makes, turn_up_to}

@@ -3,15 +3,15 @@
 use Rattle.std.proofs.Common.{◌≡◌, ◌≢◌, ℕ, zero, suc, ◌+◌, ◌-◌, ◌<◌, ◌≤◌, Bool, true, false, cond, eqb, ◌∷◌, ◌^◌, Option, Some, None, is_some, length, max, map, refl, sym, ap, ◌∙◌, arith, ◌⊎◌, inl, inr}
 use Rattle.std.specs.Prelude.{nat_lt}
 use Rattle.std.proofs.lemmas.Bool.{eqb-true, eq-eqb, cases_lt, lt-ltb}
-use Rattle.phase_any.specs.phase_base.declared.mode.Mode.{Mode}
-use Rattle.phase_any.specs.phase_history.declared.event.Event.{Event}
-use Rattle.phase_any.specs.phase_history.declared.event.Event.TheVariants.{Signalled, Waited, Dropped}
-use Rattle.phase_any.specs.phase_history.Histories.{History, greatest_used}
-use Rattle.phase_any.specs.phase_core.phase_registry.Rosters.{next_after}
-use Rattle.graph_lang.specs.graph_base.declared.limits.TheConstants.{TASKS_MAX}
-use Rattle.graph_lang.specs.graph_base.Graphs.{phaser_at}
-use Rattle.graph_lang.specs.graph_base.TaskLines.{IsGraph}
-use Rattle.stream_eval.specs.stream_lists.Jobs.{Job}
+use Rattle.phase_base.specs.declared.mode.Mode.{Mode}
+use Rattle.phase_history.specs.declared.event.Event.{Event}
+use Rattle.phase_history.specs.declared.event.Event.TheVariants.{Signalled, Waited, Dropped}
+use Rattle.phase_history.specs.Histories.{History, greatest_used}
+use Rattle.phase_registry.specs.Rosters.{next_after}
+use Rattle.graph_base.specs.declared.limits.TheConstants.{TASKS_MAX}
+use Rattle.graph_base.specs.Graphs.{phaser_at}
+use Rattle.graph_base.specs.TaskLines.{IsGraph}
+use Rattle.stream_lists.specs.Jobs.{Job}
 use Rattle.graph_runs.specs.Moments.{one, Moment}
 use Rattle.graph_runs.specs.Moves.{HasMoved}
 use Rattle.graph_runs.proofs.InBlocks.{next_samples_are, next_signals_are, first_waits_are}

@@ -5,9 +5,9 @@ use Rattle.std.specs.List.{All}
 use Rattle.std.proofs.lemmas.List.{length_push, take_all}
 use Rattle.std.proofs.lemmas.List.Elements.{All-nil, All-push}
 use Rattle.std.proofs.lemmas.List.Sums.{count_by_more_yes, count_by_more_no}
-use Rattle.graph_lang.specs.graph_base.Graphs.{no_task, task_at, is_source, source_number, sources_among}
-use Rattle.stream_eval.specs.stream_lists.Jobs.{Job}
-use Rattle.stream_eval.proofs.stream_lists_lemmas.Basics.{source_kind, push_found}
+use Rattle.graph_base.specs.Graphs.{no_task, task_at, is_source, source_number, sources_among}
+use Rattle.stream_lists.specs.Jobs.{Job}
+use Rattle.stream_lists.proofs.Basics.{source_kind, push_found}
 use Rattle.stream_job.specs.Streams.{AreInputs, HasInputRoom, IsInputOf, InputKeeps}
 use Rattle.stream_job.specs.declared.input.Input.{Input}
 

@@ -2,11 +2,11 @@
 use Rattle.std.proofs.Common.{◌≡◌, ℕ, zero, suc, ◌<◌, true, false, List, [], ◌∷◌, None, length, map, sym, ap, subst, ◌∙◌, arith}
 use Rattle.std.specs.List.{All, range_with_len}
 use Rattle.std.proofs.lemmas.Option.{get_or_from_slice_get, slice_get_within}
-use Rattle.graph_lang.specs.graph_base.Graphs.{source_number, sources_of}
+use Rattle.graph_base.specs.Graphs.{source_number, sources_of}
 use Rattle.stream_eval.specs.Results.{sink_values}
 use Rattle.stream_eval.specs.declared.whole.Lines.{Lines}
-use Rattle.stream_eval.specs.stream_lists.Jobs.{Job, with_samples}
-use Rattle.stream_eval.specs.stream_lists.Lists.{sinks_of}
+use Rattle.stream_lists.specs.Jobs.{Job, with_samples}
+use Rattle.stream_lists.specs.Lists.{sinks_of}
 use Rattle.graph_runs.specs.Beginnings.{opening}
 use Rattle.graph_runs.proofs.AnsweredInTurn.{opening_answers_none}
 use Rattle.graph_runs.proofs.AtOpening.{opening_has_begun}

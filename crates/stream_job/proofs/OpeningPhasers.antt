@@ -2,12 +2,12 @@
 use Rattle.std.proofs.Common.{◌≡◌, ℕ, zero, suc, ◌+◌, ◌-◌, ◌^◌, ◌<◌, ◌≤◌, true, Option, Some, None, length, refl, ap, arith}
 use Rattle.std.specs.Prelude.{nat_lt}
 use Rattle.std.proofs.lemmas.Bool.{lt-ltb}
-use Rattle.phase_any.specs.phase_base.declared.mode.Mode.{Mode}
-use Rattle.phase_any.specs.phase_history.Histories.{History, greatest_used}
-use Rattle.phase_any.specs.phase_history.Refusals.{register_refusal, drop_refusal}
-use Rattle.phase_any.specs.phase_core.phase_registry.Rosters.{next_after}
-use Rattle.graph_lang.specs.graph_base.TaskLines.{IsGraph}
-use Rattle.stream_eval.specs.stream_lists.Jobs.{Job}
+use Rattle.phase_base.specs.declared.mode.Mode.{Mode}
+use Rattle.phase_history.specs.Histories.{History, greatest_used}
+use Rattle.phase_history.specs.Refusals.{register_refusal, drop_refusal}
+use Rattle.phase_registry.specs.Rosters.{next_after}
+use Rattle.graph_base.specs.TaskLines.{IsGraph}
+use Rattle.stream_lists.specs.Jobs.{Job}
 use Rattle.graph_runs.specs.Beginnings.{root_mode, with_root, roots_joined}
 use Rattle.graph_runs.proofs.Beginning.{takes_root, founder_leaves}
 use Rattle.graph_runs.proofs.AtOpening.{rooted_at}

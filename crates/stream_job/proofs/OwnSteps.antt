@@ -1,16 +1,16 @@
 -- How many steps a source or a sink may make of its own accord: no more than the bound of its phaser.
 use Rattle.std.proofs.Common.{◌≡◌, ℕ, zero, suc, ◌<◌, ◌≤◌, List, [], ◌∷◌, All, length, get_or, refl, sym, ap, subst, ◌∙◌, arith}
 use Rattle.std.specs.Prelude.{Option, Some, ◌+◌, ◌-◌, ◌||◌, false, nat_lt, unwrap_or}
-use Rattle.phase_any.specs.phase_base.Members.{entry_of, least, wait_phases}
-use Rattle.phase_any.specs.phase_base.declared.entry.Entry.{Entry}
-use Rattle.phase_any.specs.phase_base.declared.limits.TheConstants.{PHASES_MAX}
-use Rattle.phase_any.specs.phase_history.Histories.{members_of}
-use Rattle.phase_any.specs.phase_history.Refusals.{is_ahead}
-use Rattle.graph_lang.specs.graph_base.declared.line.Kind.TheVariants.{Source, Fir, Sink}
-use Rattle.graph_lang.specs.graph_base.Graphs.{task_at, phaser_at}
-use Rattle.graph_lang.specs.graph_base.Registrations.{signalled_by}
-use Rattle.graph_lang.specs.graph_base.TaskLines.{HasBlock, IsGraph, has_blocks}
-use Rattle.stream_eval.specs.stream_lists.Jobs.{Job}
+use Rattle.phase_base.specs.Members.{entry_of, least, wait_phases}
+use Rattle.phase_base.specs.declared.entry.Entry.{Entry}
+use Rattle.phase_base.specs.declared.limits.TheConstants.{PHASES_MAX}
+use Rattle.phase_history.specs.Histories.{members_of}
+use Rattle.phase_history.specs.Refusals.{is_ahead}
+use Rattle.graph_base.specs.declared.line.Kind.TheVariants.{Source, Fir, Sink}
+use Rattle.graph_base.specs.Graphs.{task_at, phaser_at}
+use Rattle.graph_base.specs.Registrations.{signalled_by}
+use Rattle.graph_base.specs.TaskLines.{HasBlock, IsGraph, has_blocks}
+use Rattle.stream_lists.specs.Jobs.{Job}
 use Rattle.graph_runs.specs.Answers.{output_at}
 use Rattle.graph_runs.specs.Moments.{Moment, input_at, limits_at}
 use Rattle.graph_runs.specs.NextBlocks.{with_block}

@@ -6,15 +6,15 @@ use Rattle.std.proofs.lemmas.List.{get_or-map}
 use Rattle.std.proofs.lemmas.List.Elements.{All-get_or, All-set}
 use Rattle.std.proofs.lemmas.Bool.{eq-eqb}
 use Rattle.std.proofs.lemmas.Option.{slice_get_within, get_or_from_slice_get}
-use Rattle.phase_any.specs.phase_accum.declared.outcome.Outcome.{Outcome}
-use Rattle.graph_lang.specs.graph_base.declared.line.Kind.TheVariants.{Sink}
-use Rattle.graph_lang.specs.graph_base.Graphs.{task_at}
-use Rattle.stream_eval.specs.stream_lists.Jobs.{Job, least}
-use Rattle.stream_eval.specs.stream_lists.Lists.{is_sink_at, sinks_of}
-use Rattle.stream_eval.specs.stream_lists.Spans.{span_in, takes_from}
+use Rattle.phase_accum.specs.declared.outcome.Outcome.{Outcome}
+use Rattle.graph_base.specs.declared.line.Kind.TheVariants.{Sink}
+use Rattle.graph_base.specs.Graphs.{task_at}
+use Rattle.stream_lists.specs.Jobs.{Job, least}
+use Rattle.stream_lists.specs.Lists.{is_sink_at, sinks_of}
+use Rattle.stream_lists.specs.Spans.{span_in, takes_from}
 use Rattle.stream_eval.specs.declared.whole.Lines.{Lines}
-use Rattle.stream_eval.proofs.stream_lists_lemmas.Starts.{fewer_steps}
-use Rattle.stream_eval.proofs.stream_lists_lemmas.Basics.{sink_kind}
+use Rattle.stream_lists.proofs.Starts.{fewer_steps}
+use Rattle.stream_lists.proofs.Basics.{sink_kind}
 use Rattle.graph_runs.specs.Moments.{Moment, IsRegistered, input_at, started}
 use Rattle.graph_runs.specs.Moves.{further}
 use Rattle.graph_runs.proofs.Nexts.{further-length}

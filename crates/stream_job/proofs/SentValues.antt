@@ -3,10 +3,10 @@ use Rattle.std.proofs.Common.{◌≡◌, ℕ, ℤ, List, suc, ◌+◌, ◌<◌, 
 use Rattle.std.specs.Prelude.{Result, Ok, Err, nat_le, unsigned_abs}
 use Rattle.std.specs.List.{position_from}
 use Rattle.std.proofs.lemmas.Option.{same_Some}
-use Rattle.phase_any.specs.phase_accum.Sends.{AreSends}
-use Rattle.graph_lang.specs.stream_filters.Range.{ranged}
-use Rattle.graph_lang.specs.stream_filters.declared.fault.TooBigValue.{TooBigValue}
-use Rattle.stream_eval.specs.stream_lists.Ranges.{is_out_of_range}
+use Rattle.phase_accum.specs.Sends.{AreSends}
+use Rattle.stream_filters.specs.Range.{ranged}
+use Rattle.stream_filters.specs.declared.fault.TooBigValue.{TooBigValue}
+use Rattle.stream_lists.specs.Ranges.{is_out_of_range}
 use Rattle.graph_runs.proofs.Signalling.{sendable}
 use Rattle.stream_job.specs.Stepping as stepping
 use Rattle.stream_job.specs.Stepping.{IsNextIn, OwesMade, is_value_out}

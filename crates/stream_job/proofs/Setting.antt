@@ -7,9 +7,9 @@ use Rattle.std.proofs.Props.{props}
 use Rattle.std.proofs.lemmas.List.{get_or-set_same, get_or-set_other, length-set}
 use Rattle.std.proofs.lemmas.Option.{slice_get-get_or, slice_get_within, slice_get_read, get_or_from_slice_get, same_Some}
 use Rattle.std.proofs.lemmas.Bool.{eqb-true}
-use Rattle.phase_any.specs.phase_history.Histories.{History}
-use Rattle.graph_lang.specs.graph_base.Graphs.{phaser_at}
-use Rattle.stream_eval.specs.stream_lists.Jobs.{Job, with_samples}
+use Rattle.phase_history.specs.Histories.{History}
+use Rattle.graph_base.specs.Graphs.{phaser_at}
+use Rattle.stream_lists.specs.Jobs.{Job, with_samples}
 use Rattle.graph_runs.specs.Moments.{limits_at}
 use Rattle.graph_runs.specs.Turned.{with_at}
 use Rattle.phase_any.specs.Phasers.{PhaserStandsFor}

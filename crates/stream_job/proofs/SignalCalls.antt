@@ -2,18 +2,18 @@
 use Rattle.std.proofs.Common.{◌≡◌, ◌≢◌, ℕ, ℤ, List, ◌<◌, cond, ◌∷◌, Option, Some, None, length, slice_get, set, map, refl, sym, ap, subst, ◌∙◌}
 use Rattle.std.specs.Prelude.{Result, Ok, Err}
 use Rattle.std.specs.List.{position_from}
-use Rattle.phase_any.specs.phase_base.Limits.{Limits}
-use Rattle.phase_any.specs.phase_accum.declared.single.Single.{Single}
-use Rattle.phase_any.specs.phase_history.declared.event.Event.TheVariants.{Signalled}
-use Rattle.phase_any.specs.phase_history.declared.refusal.SignalRefusal.{SignalRefusal}
-use Rattle.phase_any.specs.phase_history.declared.refusal.SignalRefusal.TheVariants as refusals
-use Rattle.phase_any.specs.phase_history.Histories.{History, signal_phase}
-use Rattle.phase_any.specs.phase_history.Refusals.{signal_refusal}
-use Rattle.phase_any.specs.phase_history.Replies.{signal_reply, refused_or}
-use Rattle.graph_lang.specs.graph_base.declared.place.Place.TheVariants as place
-use Rattle.graph_lang.specs.graph_base.Graphs.{task_at, phaser_at}
-use Rattle.stream_eval.specs.stream_lists.Jobs.{Job}
-use Rattle.stream_eval.specs.stream_lists.Ranges.{is_out_of_range, are_made}
+use Rattle.phase_base.specs.Limits.{Limits}
+use Rattle.phase_accum.specs.declared.single.Single.{Single}
+use Rattle.phase_history.specs.declared.event.Event.TheVariants.{Signalled}
+use Rattle.phase_history.specs.declared.refusal.SignalRefusal.{SignalRefusal}
+use Rattle.phase_history.specs.declared.refusal.SignalRefusal.TheVariants as refusals
+use Rattle.phase_history.specs.Histories.{History, signal_phase}
+use Rattle.phase_history.specs.Refusals.{signal_refusal}
+use Rattle.phase_history.specs.Replies.{signal_reply, refused_or}
+use Rattle.graph_base.specs.declared.place.Place.TheVariants as place
+use Rattle.graph_base.specs.Graphs.{task_at, phaser_at}
+use Rattle.stream_lists.specs.Jobs.{Job}
+use Rattle.stream_lists.specs.Ranges.{is_out_of_range, are_made}
 use Rattle.graph_runs.specs.Moments.{one, Moment, limits_at}
 use Rattle.graph_runs.specs.Turned.{with_at}
 use Rattle.graph_runs.specs.Nexts.{Next, number_on}

@@ -7,17 +7,17 @@ use Rattle.std.specs.Global.{Global}
 use Rattle.std.proofs.lemmas.Bool.{eq-eqb, eqb-true}
 use Rattle.std.proofs.lemmas.List.{length-map}
 use Rattle.std.proofs.lemmas.Option.{same_Some}
-use Rattle.phase_any.specs.phase_accum.Sends.{AreSends}
-use Rattle.graph_lang.specs.stream_filters.Range.{ranged}
-use Rattle.graph_lang.specs.stream_filters.declared.fault.TooBigValue.{TooBigValue}
-use Rattle.graph_lang.specs.graph_base.declared.line.Kind.{Kind}
-use Rattle.graph_lang.specs.graph_base.declared.line.Kind.TheVariants.{Source, Fir, Split, Decimate, Join, Peer, Sink}
-use Rattle.graph_lang.specs.graph_base.declared.place.Place.TheVariants as place
-use Rattle.graph_lang.specs.graph_base.Graphs.{task_at, Task}
-use Rattle.graph_lang.specs.graph_base.Registrations.{signalled_by}
-use Rattle.stream_eval.specs.stream_lists.Jobs.{Job}
-use Rattle.stream_eval.specs.stream_lists.Ranges.{are_made}
-use Rattle.stream_eval.specs.stream_lists.Spans.{puts_on}
+use Rattle.phase_accum.specs.Sends.{AreSends}
+use Rattle.stream_filters.specs.Range.{ranged}
+use Rattle.stream_filters.specs.declared.fault.TooBigValue.{TooBigValue}
+use Rattle.graph_base.specs.declared.line.Kind.{Kind}
+use Rattle.graph_base.specs.declared.line.Kind.TheVariants.{Source, Fir, Split, Decimate, Join, Peer, Sink}
+use Rattle.graph_base.specs.declared.place.Place.TheVariants as place
+use Rattle.graph_base.specs.Graphs.{task_at, Task}
+use Rattle.graph_base.specs.Registrations.{signalled_by}
+use Rattle.stream_lists.specs.Jobs.{Job}
+use Rattle.stream_lists.specs.Ranges.{are_made}
+use Rattle.stream_lists.specs.Spans.{puts_on}
 use Rattle.graph_runs.specs.Moments.{Moment, made_now}
 use Rattle.graph_runs.specs.Nexts as turns
 use Rattle.graph_runs.specs.Nexts.{Next, is_live, next_of, number_on}

@@ -5,20 +5,20 @@ use mathlib.Core.List.{IsPrefix}
 use Rattle.std.proofs.lemmas.Bool.{eqb-true, eq-eqb, ne_eqb}
 use Rattle.std.proofs.lemmas.List.{length-append}
 use Rattle.std.proofs.lemmas.List.Sums.{take_while-cons}
-use Rattle.phase_any.specs.phase_base.declared.mode.Mode.{Mode}
-use Rattle.phase_any.specs.phase_base.declared.mode.Mode.TheVariants.{Wait}
-use Rattle.phase_any.specs.phase_accum.declared.outcome.Outcome.{Outcome}
-use Rattle.phase_any.specs.phase_history.declared.event.Event.{Event}
-use Rattle.phase_any.specs.phase_history.declared.event.Event.TheVariants.{Signalled, Waited, Dropped, Registered, RegisteredNow}
-use Rattle.phase_any.specs.phase_history.Phases.{received_by}
-use Rattle.graph_runs.proofs.phase_history_lemmas.LawProofs.{above_law}
-use Rattle.graph_runs.proofs.phase_history_lemmas.Refused.{registers_from}
-use Rattle.graph_lang.specs.graph_base.TaskLines.{IsGraph}
+use Rattle.phase_base.specs.declared.mode.Mode.{Mode}
+use Rattle.phase_base.specs.declared.mode.Mode.TheVariants.{Wait}
+use Rattle.phase_accum.specs.declared.outcome.Outcome.{Outcome}
+use Rattle.phase_history.specs.declared.event.Event.{Event}
+use Rattle.phase_history.specs.declared.event.Event.TheVariants.{Signalled, Waited, Dropped, Registered, RegisteredNow}
+use Rattle.phase_history.specs.Phases.{received_by}
+use Rattle.phase_history.proofs.LawProofs.{above_law}
+use Rattle.phase_history.proofs.Refused.{registers_from}
+use Rattle.graph_base.specs.TaskLines.{IsGraph}
 use Rattle.graph_runs.specs.Reached.{IsReachable}
-use Rattle.graph_lang.specs.graph_base.Graphs.{is_sink, task_at, phaser_at}
-use Rattle.stream_eval.specs.stream_lists.Jobs.{Job}
-use Rattle.stream_eval.specs.stream_lists.Lists.{is_sink_at, number, sinks_of}
-use Rattle.stream_eval.specs.stream_lists.Ranges.{is_too_big}
+use Rattle.graph_base.specs.Graphs.{is_sink, task_at, phaser_at}
+use Rattle.stream_lists.specs.Jobs.{Job}
+use Rattle.stream_lists.specs.Lists.{is_sink_at, number, sinks_of}
+use Rattle.stream_lists.specs.Ranges.{is_too_big}
 use Rattle.graph_runs.specs.Moments.{one, Moment, HasRun, HasAnsweredNone, TakenOn, input_at, limits_at, value_at}
 use Rattle.graph_runs.specs.Moves.{HasMoved}
 use Rattle.graph_runs.proofs.InBlocks.{next_samples_are, next_signals_are, first_waits_are}

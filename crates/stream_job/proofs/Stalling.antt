@@ -4,34 +4,34 @@ use Rattle.std.specs.Prelude.{nat_le, nat_lt, length}
 use Rattle.std.specs.List.{position_from}
 use Rattle.std.proofs.lemmas.Bool.{leb-true, leb-false, le-leb, lt-ltb, le-ltb, or_right}
 use Rattle.std.proofs.lemmas.List.{length-map, length-drop, length-take-le}
-use Rattle.phase_any.specs.phase_base.Limits.{Limits}
-use Rattle.phase_any.specs.phase_base.declared.limits.TheConstants.{SENDS_MAX}
-use Rattle.phase_any.specs.phase_base.Modes.{mode_signals, mode_waits, is_single}
-use Rattle.phase_any.specs.phase_base.Members.{entry_of, least, wait_phases, signalled}
-use Rattle.phase_any.specs.phase_base.declared.entry.Entry.{Entry}
-use Rattle.phase_any.specs.phase_accum.declared.outcome.Outcome.{Outcome}
-use Rattle.phase_any.specs.phase_accum.declared.single.Single.{Single}
-use Rattle.phase_any.specs.phase_history.declared.got.Got.{Got}
-use Rattle.phase_any.specs.phase_history.declared.got.Got.TheVariants as got
-use Rattle.phase_any.specs.phase_history.declared.got.GotBlock.{GotBlock}
-use Rattle.phase_any.specs.phase_history.declared.got.GotBlock.TheVariants as block
-use Rattle.phase_any.specs.phase_history.declared.refusal.SignalRefusal.{SignalRefusal}
-use Rattle.phase_any.specs.phase_history.declared.refusal.SignalRefusal.TheVariants as signal
-use Rattle.phase_any.specs.phase_history.declared.refusal.WaitRefusal.TheVariants as wait
-use Rattle.phase_any.specs.phase_history.Histories.{History, positions_of, members_of, done_of, wait_phase}
-use Rattle.phase_any.specs.phase_history.Phases.{sends_of_phase, named_in_phase}
-use Rattle.phase_any.specs.phase_history.Refusals.{refusal_at, signal_rows, list_rows, wait_rows, signal_refusal, is_ahead, is_bad_block, differs, register_refusal, register_now_refusal, drop_refusal}
-use Rattle.phase_any.specs.phase_base.Lists.{first_row}
-use Rattle.phase_any.specs.phase_history.Replies.{wait_reply, wait_block_reply, refused_or, got_at, got_block_at}
-use Rattle.phase_any.specs.phase_accum.Sends.{AreSends}
-use Rattle.graph_lang.specs.stream_filters.Range.{ranged}
-use Rattle.graph_lang.specs.graph_base.declared.place.Place.TheVariants as place
-use Rattle.graph_lang.specs.graph_base.declared.line.Kind.TheVariants.{Source}
-use Rattle.graph_lang.specs.graph_base.declared.registration.Registration.{Registration}
-use Rattle.graph_lang.specs.graph_base.Graphs.{task_at, phaser_at}
-use Rattle.graph_lang.specs.graph_base.TaskLines.{IsGraph}
-use Rattle.stream_eval.specs.stream_lists.Jobs.{Job, samples_at}
-use Rattle.stream_eval.specs.stream_lists.Ranges.{are_made, is_out_of_range}
+use Rattle.phase_base.specs.Limits.{Limits}
+use Rattle.phase_base.specs.declared.limits.TheConstants.{SENDS_MAX}
+use Rattle.phase_base.specs.Modes.{mode_signals, mode_waits, is_single}
+use Rattle.phase_base.specs.Members.{entry_of, least, wait_phases, signalled}
+use Rattle.phase_base.specs.declared.entry.Entry.{Entry}
+use Rattle.phase_accum.specs.declared.outcome.Outcome.{Outcome}
+use Rattle.phase_accum.specs.declared.single.Single.{Single}
+use Rattle.phase_history.specs.declared.got.Got.{Got}
+use Rattle.phase_history.specs.declared.got.Got.TheVariants as got
+use Rattle.phase_history.specs.declared.got.GotBlock.{GotBlock}
+use Rattle.phase_history.specs.declared.got.GotBlock.TheVariants as block
+use Rattle.phase_history.specs.declared.refusal.SignalRefusal.{SignalRefusal}
+use Rattle.phase_history.specs.declared.refusal.SignalRefusal.TheVariants as signal
+use Rattle.phase_history.specs.declared.refusal.WaitRefusal.TheVariants as wait
+use Rattle.phase_history.specs.Histories.{History, positions_of, members_of, done_of, wait_phase}
+use Rattle.phase_history.specs.Phases.{sends_of_phase, named_in_phase}
+use Rattle.phase_history.specs.Refusals.{refusal_at, signal_rows, list_rows, wait_rows, signal_refusal, is_ahead, is_bad_block, differs, register_refusal, register_now_refusal, drop_refusal}
+use Rattle.phase_base.specs.Lists.{first_row}
+use Rattle.phase_history.specs.Replies.{wait_reply, wait_block_reply, refused_or, got_at, got_block_at}
+use Rattle.phase_accum.specs.Sends.{AreSends}
+use Rattle.stream_filters.specs.Range.{ranged}
+use Rattle.graph_base.specs.declared.place.Place.TheVariants as place
+use Rattle.graph_base.specs.declared.line.Kind.TheVariants.{Source}
+use Rattle.graph_base.specs.declared.registration.Registration.{Registration}
+use Rattle.graph_base.specs.Graphs.{task_at, phaser_at}
+use Rattle.graph_base.specs.TaskLines.{IsGraph}
+use Rattle.stream_lists.specs.Jobs.{Job, samples_at}
+use Rattle.stream_lists.specs.Ranges.{are_made, is_out_of_range}
 use Rattle.graph_runs.specs.Moments.{one, Moment, limits_at, made_now, value_at, input_at}
 use Rattle.graph_runs.specs.NextBlocks.{MaySize, block_of, sample_block_of}
 use Rattle.graph_runs.specs.TaskEvents.{TaskEvent, sample, signal, exchange_wait}

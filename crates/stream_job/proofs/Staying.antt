@@ -2,18 +2,18 @@
 use Rattle.std.proofs.Common.{◌≡◌, ◌≢◌, ℕ, ◌+◌, ◌-◌, true, false, not, ◌&&◌, ◌||◌, cond, ℤ, List, Option, Some, None, length, map, take, drop, refl, sym, ap, subst, ◌∙◌, ◌⊎◌, inl, inr}
 use Rattle.std.specs.Prelude.{unwrap_or, nat_le, nat_lt, min, slice_range}
 use Rattle.std.specs.List.{fold, position_from, range_with_len}
-use Rattle.phase_any.specs.phase_accum.declared.outcome.Outcome.{Outcome}
-use Rattle.phase_any.specs.phase_history.Histories.{History, done_of}
-use Rattle.phase_any.specs.phase_history.Phases.{stream_of}
-use Rattle.phase_any.specs.phase_history.Refusals.{signal_refusal}
-use Rattle.phase_any.specs.phase_history.Replies.{wait_reply, wait_block_reply}
-use Rattle.graph_lang.specs.graph_base.declared.line.Kind.{Kind}
-use Rattle.graph_lang.specs.graph_base.declared.line.Kind.TheVariants.{Source, Fir, Split, Decimate, Join, Peer, Sink}
-use Rattle.graph_lang.specs.graph_base.Graphs.{task_at, phaser_at}
-use Rattle.graph_lang.specs.graph_base.Registrations.{signalled_by}
-use Rattle.stream_eval.specs.stream_lists.Jobs.{Job, samples_at}
-use Rattle.stream_eval.specs.stream_lists.Ranges.{is_out_of_range}
-use Rattle.stream_eval.proofs.stream_lists_lemmas.Basics.{find-same}
+use Rattle.phase_accum.specs.declared.outcome.Outcome.{Outcome}
+use Rattle.phase_history.specs.Histories.{History, done_of}
+use Rattle.phase_history.specs.Phases.{stream_of}
+use Rattle.phase_history.specs.Refusals.{signal_refusal}
+use Rattle.phase_history.specs.Replies.{wait_reply, wait_block_reply}
+use Rattle.graph_base.specs.declared.line.Kind.{Kind}
+use Rattle.graph_base.specs.declared.line.Kind.TheVariants.{Source, Fir, Split, Decimate, Join, Peer, Sink}
+use Rattle.graph_base.specs.Graphs.{task_at, phaser_at}
+use Rattle.graph_base.specs.Registrations.{signalled_by}
+use Rattle.stream_lists.specs.Jobs.{Job, samples_at}
+use Rattle.stream_lists.specs.Ranges.{is_out_of_range}
+use Rattle.stream_lists.proofs.Basics.{find-same}
 use Rattle.graph_runs.specs.Moments.{one, Moment, limits_at, value_at, input_at, made_now, first_input}
 use Rattle.graph_runs.specs.Moves.{SameTask}
 use Rattle.graph_runs.specs.NextBlocks.{block_of, child_allows, until_allows}

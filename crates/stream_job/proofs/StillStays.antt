@@ -4,19 +4,19 @@ use Rattle.std.specs.Prelude.{nat_le, nat_lt}
 use Rattle.std.specs.List.{list_all, position_from}
 use Rattle.std.proofs.lemmas.Bool.{leb-false, lt-leb, lt-ltb, ltb-true, or_right}
 use mathlib.Core.List.{IsPrefix}
-use Rattle.phase_any.specs.phase_base.Limits.{Limits}
-use Rattle.phase_any.specs.phase_base.Members.{entry_of, least, wait_phases}
-use Rattle.phase_any.specs.phase_base.declared.entry.Entry.{Entry}
-use Rattle.phase_any.specs.phase_accum.Sends.{AreSends}
-use Rattle.phase_any.specs.phase_history.Histories.{History, members_of}
-use Rattle.phase_any.specs.phase_history.Refusals.{is_ahead}
-use Rattle.phase_any.proofs.phase_accum_lemmas.Parts.{AreSends-append_left}
-use Rattle.graph_lang.specs.graph_base.Graphs.{task_at}
-use Rattle.graph_lang.specs.graph_base.TaskLines.{IsGraph}
-use Rattle.graph_lang.specs.graph_base.declared.line.Kind.{Kind}
-use Rattle.graph_lang.specs.graph_base.declared.line.Kind.TheVariants.{Source, Fir, Split, Decimate, Join, Peer, Sink}
-use Rattle.stream_eval.specs.stream_lists.Jobs.{Job, samples_at, samples_in, with_samples}
-use Rattle.stream_eval.specs.stream_lists.Ranges.{is_out_of_range}
+use Rattle.phase_base.specs.Limits.{Limits}
+use Rattle.phase_base.specs.Members.{entry_of, least, wait_phases}
+use Rattle.phase_base.specs.declared.entry.Entry.{Entry}
+use Rattle.phase_accum.specs.Sends.{AreSends}
+use Rattle.phase_history.specs.Histories.{History, members_of}
+use Rattle.phase_history.specs.Refusals.{is_ahead}
+use Rattle.phase_accum.proofs.Parts.{AreSends-append_left}
+use Rattle.graph_base.specs.Graphs.{task_at}
+use Rattle.graph_base.specs.TaskLines.{IsGraph}
+use Rattle.graph_base.specs.declared.line.Kind.{Kind}
+use Rattle.graph_base.specs.declared.line.Kind.TheVariants.{Source, Fir, Split, Decimate, Join, Peer, Sink}
+use Rattle.stream_lists.specs.Jobs.{Job, samples_at, samples_in, with_samples}
+use Rattle.stream_lists.specs.Ranges.{is_out_of_range}
 use Rattle.graph_runs.specs.Answers.{output_at, signal_turn, was_blocked}
 use Rattle.graph_runs.specs.Moments.{Moment, limits_at}
 use Rattle.graph_runs.specs.NextBlocks.{sample_block_of}

@@ -5,11 +5,11 @@ use Rattle.std.proofs.Math.Bool.{and-true, and-false}
 use Rattle.std.proofs.lemmas.Bool.{cases_lt, eq-eqb, le-leb, le-ltb, lt-leb, lt-ltb, ne_eqb}
 use Rattle.std.proofs.lemmas.List.{length-drop}
 use Rattle.std.proofs.lemmas.Option.{slice_get_read, slice_get_within}
-use Rattle.graph_lang.specs.graph_base.Graphs.{source_number, task_at}
-use Rattle.stream_eval.specs.stream_lists.Jobs.{Job, with_samples}
-use Rattle.stream_eval.specs.stream_lists.Lists.{is_sink_at, sinks_of}
+use Rattle.graph_base.specs.Graphs.{source_number, task_at}
+use Rattle.stream_lists.specs.Jobs.{Job, with_samples}
+use Rattle.stream_lists.specs.Lists.{is_sink_at, sinks_of}
 use Rattle.stream_eval.specs.declared.whole.Lines.{Lines}
-use Rattle.stream_eval.proofs.stream_lists_lemmas.Basics.{sink_kind}
+use Rattle.stream_lists.proofs.Basics.{sink_kind}
 use Rattle.graph_runs.specs.Moments.{Moment}
 use Rattle.stream_job.specs.Machines.{IsMachineAt, KeepsLines, kept_behind}
 use Rattle.stream_job.specs.SinkLines.{kept_by}

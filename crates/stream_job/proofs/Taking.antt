@@ -1,11 +1,11 @@
 -- What a task has taken of the first wait of its next steps.
 use Rattle.std.proofs.Common.{◌≡◌, ◌≢◌, ◌⊎◌, inl, inr, ℕ, ◌+◌, ◌≤◌, ℤ, List, [], ◌∷◌, ◌++◌, length, get_or, map, refl, sym, ap, subst, ◌∙◌, arith}
-use Rattle.phase_any.specs.phase_accum.declared.outcome.Outcome.{Outcome}
-use Rattle.graph_lang.specs.stream_filters.Range.{ranged}
-use Rattle.graph_lang.specs.graph_base.declared.line.Kind.{Kind}
-use Rattle.graph_lang.specs.graph_base.declared.line.Kind.TheVariants.{Source, Fir, Split, Decimate, Join, Peer, Sink}
-use Rattle.graph_lang.specs.graph_base.Graphs.{Task}
-use Rattle.stream_eval.specs.stream_lists.Lists.{number}
+use Rattle.phase_accum.specs.declared.outcome.Outcome.{Outcome}
+use Rattle.stream_filters.specs.Range.{ranged}
+use Rattle.graph_base.specs.declared.line.Kind.{Kind}
+use Rattle.graph_base.specs.declared.line.Kind.TheVariants.{Source, Fir, Split, Decimate, Join, Peer, Sink}
+use Rattle.graph_base.specs.Graphs.{Task}
+use Rattle.stream_lists.specs.Lists.{number}
 use Rattle.graph_runs.specs.Moves.{IsBlock}
 use Rattle.graph_runs.specs.Steps.{HasFilter, owed_of}
 use Rattle.graph_runs.specs.TaskPlaces as places

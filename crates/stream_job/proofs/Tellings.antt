@@ -1,12 +1,12 @@
 -- What the code tells of a turn is what the table tells.
 use Rattle.std.proofs.Common.{◌≡◌, ◌≢◌, ℕ, ℤ, ◌<◌, ◌≤◌, true, false, List, [], Option, Some, None, length, get_or, refl, sym, ap, subst, ◌∙◌, arith, ◌⊎◌, inl, inr}
 use Rattle.std.proofs.lemmas.List.{length-set}
-use Rattle.graph_lang.specs.graph_base.declared.limits.TheConstants.{TASKS_MAX}
-use Rattle.graph_lang.specs.graph_base.Graphs.{task_at}
-use Rattle.graph_lang.specs.graph_base.TaskLines.{IsGraph}
-use Rattle.stream_eval.specs.stream_lists.Jobs.{Job, least}
-use Rattle.stream_eval.specs.stream_lists.Spans.{span_in}
-use Rattle.stream_eval.specs.stream_lists.Ranges.{Where}
+use Rattle.graph_base.specs.declared.limits.TheConstants.{TASKS_MAX}
+use Rattle.graph_base.specs.Graphs.{task_at}
+use Rattle.graph_base.specs.TaskLines.{IsGraph}
+use Rattle.stream_lists.specs.Jobs.{Job, least}
+use Rattle.stream_lists.specs.Spans.{span_in}
+use Rattle.stream_lists.specs.Ranges.{Where}
 use Rattle.graph_runs.specs.Moments.{Moment, HasRun, HasAnsweredNone, input_at, started}
 use Rattle.graph_runs.specs.Settled.{IsFaultAt}
 use Rattle.graph_runs.proofs.AnsweredInTurn.{turn_answers_none, turn_answers_one}

@@ -5,28 +5,28 @@ use Rattle.std.specs.List.{range_with_len}
 use Rattle.std.proofs.Math.Seq.{take-append_seam}
 use Rattle.std.proofs.lemmas.List.FromFn.{length-range_with_len}
 use Rattle.std.proofs.lemmas.List.{length-map, length-take-le, length-drop, take-take}
-use Rattle.phase_any.specs.phase_accum.declared.outcome.Outcome.{Outcome}
-use Rattle.phase_any.specs.phase_base.Limits.{Limits}
-use Rattle.phase_any.specs.phase_history.declared.got.Got.{Got}
-use Rattle.phase_any.specs.phase_history.declared.got.Got.TheVariants as got
-use Rattle.phase_any.specs.phase_history.declared.got.GotBlock.{GotBlock}
-use Rattle.phase_any.specs.phase_history.declared.got.GotBlock.TheVariants as block
-use Rattle.phase_any.specs.phase_history.declared.refusal.WaitRefusal.{WaitRefusal}
-use Rattle.phase_any.specs.phase_history.declared.refusal.WaitRefusal.TheVariants as refusals
-use Rattle.phase_any.specs.phase_history.Histories.{History, wait_phase, done_of, top_of}
-use Rattle.phase_any.specs.phase_base.declared.limits.TheConstants.{PHASES_MAX}
-use Rattle.phase_any.proofs.phase_history_lemmas.LawProofs.{reply_tells}
-use Rattle.phase_any.proofs.phase_history_lemmas.Steps.{done_below_top, sound_of}
-use Rattle.phase_any.proofs.phase_history_lemmas.Tops.{top_within}
-use Rattle.phase_any.specs.phase_history.Phases.{value_of_phase, stream_of}
-use Rattle.phase_any.specs.phase_history.Refusals.{wait_refusal}
-use Rattle.phase_any.specs.phase_history.Replies.{wait_reply, wait_block_reply, refused_or}
-use Rattle.phase_any.specs.phase_core.Blocks.{written}
-use Rattle.graph_runs.proofs.phase_history_lemmas.BlockAnswers.{block_answers_law}
-use Rattle.graph_lang.specs.graph_base.declared.line.Kind.TheVariants.{Peer}
-use Rattle.graph_lang.specs.graph_base.Graphs.{task_at}
-use Rattle.graph_lang.specs.graph_base.TaskLines.{IsGraph}
-use Rattle.stream_eval.specs.stream_lists.Jobs.{Job}
+use Rattle.phase_accum.specs.declared.outcome.Outcome.{Outcome}
+use Rattle.phase_base.specs.Limits.{Limits}
+use Rattle.phase_history.specs.declared.got.Got.{Got}
+use Rattle.phase_history.specs.declared.got.Got.TheVariants as got
+use Rattle.phase_history.specs.declared.got.GotBlock.{GotBlock}
+use Rattle.phase_history.specs.declared.got.GotBlock.TheVariants as block
+use Rattle.phase_history.specs.declared.refusal.WaitRefusal.{WaitRefusal}
+use Rattle.phase_history.specs.declared.refusal.WaitRefusal.TheVariants as refusals
+use Rattle.phase_history.specs.Histories.{History, wait_phase, done_of, top_of}
+use Rattle.phase_base.specs.declared.limits.TheConstants.{PHASES_MAX}
+use Rattle.phase_history.proofs.LawProofs.{reply_tells}
+use Rattle.phase_history.proofs.Steps.{done_below_top, sound_of}
+use Rattle.phase_history.proofs.Tops.{top_within}
+use Rattle.phase_history.specs.Phases.{value_of_phase, stream_of}
+use Rattle.phase_history.specs.Refusals.{wait_refusal}
+use Rattle.phase_history.specs.Replies.{wait_reply, wait_block_reply, refused_or}
+use Rattle.phase_core.specs.Blocks.{written}
+use Rattle.phase_history.proofs.BlockAnswers.{block_answers_law}
+use Rattle.graph_base.specs.declared.line.Kind.TheVariants.{Peer}
+use Rattle.graph_base.specs.Graphs.{task_at}
+use Rattle.graph_base.specs.TaskLines.{IsGraph}
+use Rattle.stream_lists.specs.Jobs.{Job}
 use Rattle.graph_runs.specs.Moments.{Moment, HasRun, limits_at, value_at, input_at}
 use Rattle.graph_runs.proofs.Blocks.{block_few}
 use Rattle.graph_runs.specs.NextBlocks.{block_up_to}

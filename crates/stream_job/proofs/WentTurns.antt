@@ -1,16 +1,16 @@
 -- The turn of a task that takes no value out of range, by what a turn of these sizes did.
 use Rattle.std.proofs.Common.{◌≡◌, ◌≢◌, ℕ, ℤ, List, ◌+◌, ◌||◌, Bool, true, false, cond, Option, Some, None, length, map, refl, sym, ap, subst, ◌∙◌, arith}
 use Rattle.std.specs.List.{position_from}
-use Rattle.phase_any.specs.phase_history.declared.refusal.SignalRefusal.{SignalRefusal}
-use Rattle.phase_any.specs.phase_history.declared.refusal.SignalRefusal.TheVariants as refusals
-use Rattle.phase_any.specs.phase_history.Histories.{greatest_used}
-use Rattle.phase_any.specs.phase_history.Refusals.{register_refusal, register_now_refusal, drop_refusal, signal_refusal}
-use Rattle.graph_lang.specs.graph_base.declared.line.Kind.{Kind}
-use Rattle.graph_lang.specs.graph_base.declared.line.Kind.TheVariants.{Source, Fir, Split, Decimate, Join, Peer, Sink}
-use Rattle.graph_lang.specs.graph_base.declared.registration.Registration.{Registration}
-use Rattle.graph_lang.specs.graph_base.Graphs.{task_at, phaser_at}
-use Rattle.stream_eval.specs.stream_lists.Jobs.{Job}
-use Rattle.stream_eval.specs.stream_lists.Ranges.{are_made, is_out_of_range}
+use Rattle.phase_history.specs.declared.refusal.SignalRefusal.{SignalRefusal}
+use Rattle.phase_history.specs.declared.refusal.SignalRefusal.TheVariants as refusals
+use Rattle.phase_history.specs.Histories.{greatest_used}
+use Rattle.phase_history.specs.Refusals.{register_refusal, register_now_refusal, drop_refusal, signal_refusal}
+use Rattle.graph_base.specs.declared.line.Kind.{Kind}
+use Rattle.graph_base.specs.declared.line.Kind.TheVariants.{Source, Fir, Split, Decimate, Join, Peer, Sink}
+use Rattle.graph_base.specs.declared.registration.Registration.{Registration}
+use Rattle.graph_base.specs.Graphs.{task_at, phaser_at}
+use Rattle.stream_lists.specs.Jobs.{Job}
+use Rattle.stream_lists.specs.Ranges.{are_made, is_out_of_range}
 use Rattle.graph_runs.specs.Answers as answers
 use Rattle.graph_runs.specs.Answers.{Answer, Told, Moved, Ended, TooBig, accepted_answer, after_answer, answer_up_to, call_leave, call_register, has_made, is_blocked, is_gone, is_refused, makes, output_at, register_answer, samples_up_to, signal_answer, signal_turn, tells_up_to, turn_up_to, values_up_to, was_blocked, word_of_answer}
 use Rattle.graph_runs.specs.Moments.{one, Moment, limits_at}

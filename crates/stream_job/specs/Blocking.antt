@@ -1,8 +1,8 @@
 -- Which tasks a run has found to be blocked.
 use Rattle.std.specs.Prelude.{◌≡◌, ℕ, ◌==◌, true, List, [], get_or}
 use Rattle.std.specs.List.{list_any}
-use Rattle.graph_lang.specs.graph_base.Graphs.{task_at}
-use Rattle.stream_eval.specs.stream_lists.Jobs.{Job}
+use Rattle.graph_base.specs.Graphs.{task_at}
+use Rattle.stream_lists.specs.Jobs.{Job}
 use Rattle.graph_runs.specs.Moments.{Moment, input_at}
 use Rattle.graph_runs.specs.Nexts as turns
 use Rattle.graph_runs.specs.Answers.{answer_of_turn, is_blocked, output_at}

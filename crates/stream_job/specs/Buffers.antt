@@ -1,7 +1,7 @@
 -- Places in which blocks are made.
 use Rattle.std.specs.Prelude.{ℕ, ◌<◌, ◌≤◌, length, max}
-use Rattle.graph_lang.specs.graph_base.Graphs.{task_at}
-use Rattle.stream_eval.specs.stream_lists.Jobs.{Job}
+use Rattle.graph_base.specs.Graphs.{task_at}
+use Rattle.stream_lists.specs.Jobs.{Job}
 use Rattle.stream_job.specs.declared.buffers.TheConstants.{OWN_STEPS}
 
 -- how many steps a turn of task t makes at most, whether its line names a block or not

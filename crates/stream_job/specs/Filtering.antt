@@ -1,9 +1,9 @@
 -- What a filter makes of some numbers.
 use Rattle.std.specs.Prelude.{◌≡◌, ℤ, List, ◌++◌, map, Option, Result}
-use Rattle.graph_lang.specs.graph_base.Graphs.{Task}
-use Rattle.graph_lang.specs.stream_filters.declared.fault.TooBigValue.{TooBigValue}
-use Rattle.graph_lang.specs.stream_filters.Filter.{FirState}
-use Rattle.graph_lang.specs.stream_filters.Range.{ranged}
+use Rattle.graph_base.specs.Graphs.{Task}
+use Rattle.stream_filters.specs.declared.fault.TooBigValue.{TooBigValue}
+use Rattle.stream_filters.specs.Filter.{FirState}
+use Rattle.stream_filters.specs.Range.{ranged}
 use Rattle.graph_runs.specs.Steps.{HasFilter}
 use Rattle.graph_runs.specs.TaskPlaces.{outputs_of_block}
 

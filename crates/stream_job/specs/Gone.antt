@@ -1,6 +1,6 @@
 -- A task that came and has left.
 use Rattle.std.specs.Prelude.{ℕ, Bool, not, ◌&&◌, is_some}
-use Rattle.stream_eval.specs.stream_lists.Jobs.{Job}
+use Rattle.stream_lists.specs.Jobs.{Job}
 use Rattle.graph_runs.specs.Moments.{Moment}
 use Rattle.graph_runs.specs.Nexts.{first_kept, first_missing}
 

@@ -1,10 +1,10 @@
 -- Turns that take no value out of range, and where a task stands before one.
 use Rattle.std.specs.Prelude.{◌≡◌, ◌≢◌, ℕ, suc, ℤ, List, Option, Some, None, Bool, true, false, ◌||◌, length, drop}
 use Rattle.std.specs.List.{All, position_from}
-use Rattle.phase_any.specs.phase_accum.Sends.{AreSends}
-use Rattle.graph_lang.specs.graph_base.Graphs.{task_at}
-use Rattle.stream_eval.specs.stream_lists.Jobs.{Job, samples_at, with_samples}
-use Rattle.stream_eval.specs.stream_lists.Ranges.{Where, is_out_of_range}
+use Rattle.phase_accum.specs.Sends.{AreSends}
+use Rattle.graph_base.specs.Graphs.{task_at}
+use Rattle.stream_lists.specs.Jobs.{Job, samples_at, with_samples}
+use Rattle.stream_lists.specs.Ranges.{Where, is_out_of_range}
 use Rattle.graph_runs.specs.Answers.{Told, TooBig, after_answer, answer_up_to, makes, tells_up_to, turn_up_to, was_blocked}
 use Rattle.graph_runs.specs.Moments.{Moment, HasAnsweredNone, made_now}
 use Rattle.graph_runs.specs.NextBlocks.{MaySize}

@@ -20,10 +20,3 @@ pub mod TaskLists
 pub mod Tellings
 pub mod Turning
 pub mod Worlds
-pub use Rattle.graph_lang.specs.graph_base as graph_base
-pub use Rattle.graph_runs.specs as graph_runs
-pub use Rattle.phase_any.specs as phase_any
-pub use Rattle.phase_any.specs.phase_accum as phase_accum
-pub use Rattle.phase_any.specs.phase_base as phase_base
-pub use Rattle.phase_any.specs.phase_history as phase_history
-pub use Rattle.stream_eval.specs.stream_lists as stream_lists

@@ -1,16 +1,16 @@
 -- The moments that a machine stands for, and what the lines of its sinks keep.
 use Rattle.std.specs.Prelude.{◌≡◌, ℕ, ℤ, zero, suc, ◌+◌, ◌<◌, ◌≤◌, List, [], ◌++◌, Bool, true, ◌||◌, Option, Some, None, is_some, if◌then◌else◌, length, map, slice_get, drop, vec_capacity}
-use Rattle.phase_any.specs.phase_history.Histories.{History, greatest_used}
-use Rattle.graph_lang.specs.graph_base.Graphs.{phaser_at, task_at}
-use Rattle.graph_lang.specs.graph_base.declared.line.Kind.TheVariants.{Source}
-use Rattle.graph_lang.specs.graph_base.TaskLines.{IsGraph}
-use Rattle.stream_eval.specs.stream_lists.Jobs.{Job, least, samples_in, with_samples}
-use Rattle.stream_eval.specs.stream_lists.Lists.{sinks_of}
-use Rattle.stream_eval.specs.stream_lists.Meetings.{meeting_line}
-use Rattle.stream_eval.specs.stream_lists.Spans.{span_in}
+use Rattle.phase_history.specs.Histories.{History, greatest_used}
+use Rattle.graph_base.specs.Graphs.{phaser_at, task_at}
+use Rattle.graph_base.specs.declared.line.Kind.TheVariants.{Source}
+use Rattle.graph_base.specs.TaskLines.{IsGraph}
+use Rattle.stream_lists.specs.Jobs.{Job, least, samples_in, with_samples}
+use Rattle.stream_lists.specs.Lists.{sinks_of}
+use Rattle.stream_lists.specs.Meetings.{meeting_line}
+use Rattle.stream_lists.specs.Spans.{span_in}
 use Rattle.stream_eval.specs.declared.whole.Lines.{Lines}
 use Rattle.graph_runs.specs.Moments.{Moment, limits_at}
-use Rattle.phase_any.specs.phase_accum.Sends.{AreSends}
+use Rattle.phase_accum.specs.Sends.{AreSends}
 use Rattle.phase_any.specs.Phasers.{PhaserStandsFor}
 use Rattle.phase_any.specs.declared.any_phaser.AnyPhaser.{AnyPhaser}
 use Rattle.graph_runs.specs.Reached.{IsReachable}

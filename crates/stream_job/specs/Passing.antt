@@ -1,11 +1,11 @@
 -- Steps of a splitter, a decimator or a joiner, several in a row.
 use Rattle.std.specs.Prelude.{◌≡◌, ◌≢◌, ℕ, ◌≤◌, ℤ, List, [], ◌∷◌, Bool, true, false, Some, None, length, slice_get}
-use Rattle.graph_lang.specs.graph_base.declared.line.Kind.{Kind}
-use Rattle.graph_lang.specs.graph_base.declared.line.Kind.TheVariants.{Split, Decimate, Join}
-use Rattle.graph_lang.specs.graph_base.Graphs.{task_at}
-use Rattle.stream_eval.specs.stream_lists.Jobs.{Job, with_samples}
-use Rattle.stream_eval.specs.stream_lists.Lists.{is_sink_at}
-use Rattle.stream_eval.specs.stream_lists.Ranges.{Where}
+use Rattle.graph_base.specs.declared.line.Kind.{Kind}
+use Rattle.graph_base.specs.declared.line.Kind.TheVariants.{Split, Decimate, Join}
+use Rattle.graph_base.specs.Graphs.{task_at}
+use Rattle.stream_lists.specs.Jobs.{Job, with_samples}
+use Rattle.stream_lists.specs.Lists.{is_sink_at}
+use Rattle.stream_lists.specs.Ranges.{Where}
 use Rattle.graph_runs.specs.Answers.{TooBig, makes, tells_up_to, turn_up_to}
 use Rattle.graph_runs.specs.Moments.{Moment, first_input}
 use Rattle.graph_runs.specs.NextBlocks.{MaySize}

@@ -1,11 +1,11 @@
 -- The place that the fields of a task's state have.
 use Rattle.std.specs.Prelude.{◌≡◌, ◌≢◌, ℕ, ℤ, List, [], ◌∷◌, ◌++◌, ◌+◌, ◌≤◌, length, Some, Result, slice_get}
-use Rattle.graph_lang.specs.graph_base.declared.line.Kind.TheVariants.{Fir, Sink}
-use Rattle.graph_lang.specs.stream_filters.declared.fault.TooBigValue.{TooBigValue}
-use Rattle.graph_lang.specs.graph_base.Graphs.{Task, task_at}
-use Rattle.graph_lang.specs.graph_base.TaskLines.{HasBlock}
-use Rattle.stream_eval.specs.stream_lists.Jobs.{Job}
-use Rattle.stream_eval.specs.stream_lists.Lists.{sinks_of}
+use Rattle.graph_base.specs.declared.line.Kind.TheVariants.{Fir, Sink}
+use Rattle.stream_filters.specs.declared.fault.TooBigValue.{TooBigValue}
+use Rattle.graph_base.specs.Graphs.{Task, task_at}
+use Rattle.graph_base.specs.TaskLines.{HasBlock}
+use Rattle.stream_lists.specs.Jobs.{Job}
+use Rattle.stream_lists.specs.Lists.{sinks_of}
 use Rattle.graph_runs.specs.Beginnings.{opening}
 use Rattle.graph_runs.specs.Moments.{Moment}
 use Rattle.graph_runs.specs.NextBlocks.{with_block}

@@ -1,9 +1,9 @@
 -- What the turns of a task ask of the lines of its graph.
 use Rattle.std.specs.Prelude.{◌≡◌, ℕ, ◌<◌, ◌≤◌, Bool, false, ◌==◌, List, Option, Some, None, length, slice_get}
 use Rattle.std.specs.List.{filter, range_with_len}
-use Rattle.graph_lang.specs.graph_base.declared.line.Parent.{Parent}
-use Rattle.graph_lang.specs.graph_base.Graphs.{source_number, task_at}
-use Rattle.stream_eval.specs.stream_lists.Jobs.{Job}
+use Rattle.graph_base.specs.declared.line.Parent.{Parent}
+use Rattle.graph_base.specs.Graphs.{source_number, task_at}
+use Rattle.stream_lists.specs.Jobs.{Job}
 use Rattle.stream_job.specs.declared.plan.Plan.{Plan}
 use Rattle.stream_job.specs.declared.plan.TaskPlan.{TaskPlan}
 

@@ -1,7 +1,7 @@
 -- How many events the turns of a stream made, and what a look at its tasks tells.
 use Rattle.std.specs.Prelude.{◌≡◌, ◌<◌, ℕ, ℤ, Bool, true, false, List, Option, Some, None, length}
-use Rattle.stream_eval.specs.stream_lists.Jobs.{Job, with_samples}
-use Rattle.stream_eval.specs.stream_lists.Ranges.{Where}
+use Rattle.stream_lists.specs.Jobs.{Job, with_samples}
+use Rattle.stream_lists.specs.Ranges.{Where}
 use Rattle.graph_runs.specs.Moments.{Moment}
 use Rattle.stream_job.specs.InRange.{stands_before}
 use Rattle.stream_job.specs.Streams.{EachStands, FirstStands, IsStreamAt, StreamState, StreamStopsAt, ended_at, first_full, rests}

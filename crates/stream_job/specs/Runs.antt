@@ -1,7 +1,7 @@
 -- Turns of a run from its opening, one after the other.
 use Rattle.std.specs.Prelude.{◌≡◌, ◌≢◌, ℕ, List, ◌∷◌, ◌++◌, Some, None}
-use Rattle.stream_eval.specs.stream_lists.Jobs.{Job}
-use Rattle.stream_eval.specs.stream_lists.Ranges.{Where}
+use Rattle.stream_lists.specs.Jobs.{Job}
+use Rattle.stream_lists.specs.Ranges.{Where}
 use Rattle.graph_runs.specs.Answers.{TooBig, after_turns, turn_tells}
 use Rattle.graph_runs.specs.Beginnings.{opening}
 

@@ -1,7 +1,7 @@
 -- When the call of a task is blocked, by where the task stands.
 use Rattle.std.specs.Prelude.{◌≡◌, ◌<◌, ℕ, ℤ, List, true, length}
-use Rattle.phase_any.specs.phase_accum.Sends.{AreSends}
-use Rattle.stream_eval.specs.stream_lists.Jobs.{Job, samples_at, with_samples}
+use Rattle.phase_accum.specs.Sends.{AreSends}
+use Rattle.stream_lists.specs.Jobs.{Job, samples_at, with_samples}
 use Rattle.graph_runs.specs.Moments.{Moment}
 use Rattle.graph_runs.specs.Nexts.{Next, is_live, next_of}
 use Rattle.stream_job.specs.Machines.{IsMachine, IsMachineAt}

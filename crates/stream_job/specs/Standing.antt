@@ -1,9 +1,9 @@
 -- How a task stands on a phaser of its line.
 use Rattle.std.specs.Prelude.{ℕ, Option, Some, None}
-use Rattle.phase_any.specs.phase_base.Members.{entry_of}
-use Rattle.phase_any.specs.phase_base.declared.entry.Entry.{Entry}
-use Rattle.phase_any.specs.phase_history.Histories.{History, members_of}
-use Rattle.stream_eval.specs.stream_lists.Jobs.{Job}
+use Rattle.phase_base.specs.Members.{entry_of}
+use Rattle.phase_base.specs.declared.entry.Entry.{Entry}
+use Rattle.phase_history.specs.Histories.{History, members_of}
+use Rattle.stream_lists.specs.Jobs.{Job}
 use Rattle.graph_runs.specs.Moments.{Moment}
 use Rattle.graph_runs.specs.TaskPlaces.{registration_at}
 

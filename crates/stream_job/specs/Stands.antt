@@ -1,16 +1,16 @@
 -- Where the tasks of a run stand on their phasers, and what each of them does next.
 use Rattle.std.specs.Prelude.{ℕ, List, Option, length, option_map}
 use Rattle.std.specs.List.{filter_map, flat_map, range_with_len}
-use Rattle.phase_any.specs.phase_base.declared.entry.Entry.{Entry}
+use Rattle.phase_base.specs.declared.entry.Entry.{Entry}
 use Rattle.graph_runs.specs.Moments.{Moment}
 use Rattle.graph_runs.specs.Nexts as nexts
 use Rattle.graph_runs.specs.Nexts.{Next, next_of, registrations_at}
 use Rattle.graph_runs.specs.TaskPlaces.{registration_at}
-use Rattle.stream_eval.specs.stream_lists.Jobs.{Job}
-use Rattle.stream_eval.specs.stream_lists.Stands.{call_on}
-use Rattle.stream_eval.specs.stream_lists.declared.stand.End.{End}
-use Rattle.stream_eval.specs.stream_lists.declared.stand.End.TheVariants as end
-use Rattle.stream_eval.specs.stream_lists.declared.stand.Stand.{Stand}
+use Rattle.stream_lists.specs.Jobs.{Job}
+use Rattle.stream_lists.specs.Stands.{call_on}
+use Rattle.stream_lists.specs.declared.stand.End.{End}
+use Rattle.stream_lists.specs.declared.stand.End.TheVariants as end
+use Rattle.stream_lists.specs.declared.stand.Stand.{Stand}
 use Rattle.stream_job.specs.Standing.{standing_on}
 use Rattle.stream_job.specs.Streams.{all_tasks}
 

@@ -5,27 +5,27 @@ use Rattle.std.specs.Vec.{vec_len, vec_capacity}
 use Rattle.graph_runs.specs.Answers.{answer_up_to, was_blocked, after_answer, makes, output_at}
 use Rattle.graph_runs.specs.TaskEvents.{first_wait}
 use Rattle.graph_runs.specs.NextBlocks.{MaySize}
-use Rattle.phase_any.specs.phase_accum.declared.outcome.Outcome.{Outcome}
+use Rattle.phase_accum.specs.declared.outcome.Outcome.{Outcome}
 use Rattle.stream_eval.specs.declared.whole.Lines.{Lines}
-use Rattle.phase_any.specs.phase_base.Limits.{Limits}
-use Rattle.phase_any.specs.phase_base.declared.entry.Entry.{Entry}
-use Rattle.phase_any.specs.phase_base.Members.{entry_of, least, wait_phases}
-use Rattle.phase_any.specs.phase_history.Histories.{History, members_of, done_of}
-use Rattle.phase_any.specs.phase_history.Refusals.{is_ahead, register_refusal, register_now_refusal}
-use Rattle.stream_eval.specs.stream_lists.Jobs.{Job, with_samples}
+use Rattle.phase_base.specs.Limits.{Limits}
+use Rattle.phase_base.specs.declared.entry.Entry.{Entry}
+use Rattle.phase_base.specs.Members.{entry_of, least, wait_phases}
+use Rattle.phase_history.specs.Histories.{History, members_of, done_of}
+use Rattle.phase_history.specs.Refusals.{is_ahead, register_refusal, register_now_refusal}
+use Rattle.stream_lists.specs.Jobs.{Job, with_samples}
 use Rattle.graph_runs.specs.Moments.{Moment, limits_at, made_now}
 use Rattle.graph_runs.specs.Nexts.{Next, has_signaller, is_live, next_of, number_on, waits}
 use Rattle.graph_runs.specs.TaskPlaces.{Owed, nothing, values, exchange}
-use Rattle.graph_lang.specs.stream_filters.declared.fault.TooBigValue.{TooBigValue}
+use Rattle.stream_filters.specs.declared.fault.TooBigValue.{TooBigValue}
 use Rattle.graph_runs.specs.Reached.{IsReachable}
 use Rattle.graph_runs.specs.Answers as answers
 use Rattle.graph_runs.specs.Nexts as turns
-use Rattle.phase_any.specs.phase_base.declared.mode.Mode.{Mode}
-use Rattle.phase_any.specs.phase_history.declared.event.Event.{Event}
-use Rattle.phase_any.specs.phase_history.declared.event.Event.TheVariants.{Registered, RegisteredNow}
-use Rattle.phase_any.specs.phase_history.declared.refusal.RegisterRefusal.{RegisterRefusal}
-use Rattle.graph_lang.specs.graph_base.Graphs.{task_at}
-use Rattle.stream_eval.specs.stream_lists.Lists.{is_sink_at, sinks_of}
+use Rattle.phase_base.specs.declared.mode.Mode.{Mode}
+use Rattle.phase_history.specs.declared.event.Event.{Event}
+use Rattle.phase_history.specs.declared.event.Event.TheVariants.{Registered, RegisteredNow}
+use Rattle.phase_history.specs.declared.refusal.RegisterRefusal.{RegisterRefusal}
+use Rattle.graph_base.specs.Graphs.{task_at}
+use Rattle.stream_lists.specs.Lists.{is_sink_at, sinks_of}
 use Rattle.stream_job.specs.Machines.{IsMachine, IsMachineAt, UsesFew, HasRoom, kept_behind, most_in}
 use Rattle.stream_job.specs.Buffers.{most_steps}
 use Rattle.stream_job.specs.SinkLines.{sink_begins_at}

@@ -2,13 +2,13 @@
 -- their run, and what each sink has handed over; and when it stops.
 use Rattle.std.specs.Prelude.{◌≡◌, ℕ, ℤ, ◌+◌, ◌-◌, ◌<◌, ◌≤◌, ◌||◌, ◌&&◌, ◌==◌, ◌++◌, Bool, true, false, nat_lt, List, [], ◌∷◌, Option, Some, None, length, drop, get_or, set, slice_get, min, max, map, replicate, is_some, vec_capacity, if◌then◌else◌}
 use Rattle.std.specs.List.{All, find, list_all, list_any, range_with_len}
-use Rattle.phase_any.specs.phase_accum.Sends.{AreSends}
-use Rattle.graph_lang.specs.graph_base.Graphs.{Graph, source_number, sources_of, task_at}
-use Rattle.graph_lang.specs.graph_base.declared.line.Kind.TheVariants.{Source}
-use Rattle.stream_eval.specs.stream_lists.Jobs.{Job, samples_in, with_samples}
-use Rattle.stream_eval.specs.stream_lists.Lists.{is_sink_at, sinks_of}
-use Rattle.stream_eval.specs.stream_lists.Meetings.{meeting_line}
-use Rattle.stream_eval.specs.stream_lists.Ranges.{Where}
+use Rattle.phase_accum.specs.Sends.{AreSends}
+use Rattle.graph_base.specs.Graphs.{Graph, source_number, sources_of, task_at}
+use Rattle.graph_base.specs.declared.line.Kind.TheVariants.{Source}
+use Rattle.stream_lists.specs.Jobs.{Job, samples_in, with_samples}
+use Rattle.stream_lists.specs.Lists.{is_sink_at, sinks_of}
+use Rattle.stream_lists.specs.Meetings.{meeting_line}
+use Rattle.stream_lists.specs.Ranges.{Where}
 use Rattle.graph_runs.specs.Answers.{Answer, after_answer, makes, turn_up_to}
 use Rattle.graph_runs.specs.Feeds.{Call, Continues, IsOpenAt, call_of, hungers}
 use Rattle.graph_runs.specs.Moments.{HasAnsweredNone, Moment, started}
@@ -20,7 +20,7 @@ use Rattle.stream_job.specs.InRange.{is_held_up, stands_before}
 use Rattle.stream_job.specs.Machines.{IsMachineAt, KeepsLines}
 use Rattle.stream_job.specs.SinkLines.{kept_by}
 use Rattle.stream_job.specs.declared.input.Input.{Input}
-use Rattle.stream_eval.specs.stream_lists.declared.sample_counts.TheConstants.{COUNT_MAX}
+use Rattle.stream_lists.specs.declared.sample_counts.TheConstants.{COUNT_MAX}
 use Rattle.stream_job.specs.declared.input.TheConstants.{INPUT_ROOM}
 use Rattle.stream_job.specs.declared.machine.Machine.{Machine}
 use Rattle.stream_job.specs.declared.sink_lines.TheConstants.{LINE_ROOM}

@@ -1,7 +1,7 @@
 -- Lists of tasks in memory.
 use Rattle.std.specs.Prelude.{◌≡◌, ℕ, ◌<◌, ◌≤◌, ◌==◌, Bool, false, List, get_or, length, eqb}
 use Rattle.std.specs.List.{list_any, All, IsDistinct}
-use Rattle.graph_lang.specs.graph_base.declared.limits.TheConstants.{TASKS_MAX}
+use Rattle.graph_base.specs.declared.limits.TheConstants.{TASKS_MAX}
 use Rattle.smallvec.specs.SmallVec.{SmallVec}
 
 -- each task of a graph has room in the list, and stands there once, where its mark says so

@@ -1,7 +1,7 @@
 -- What the call of a turn did, as the turn tells it and as the lists of blocked tasks have it.
 use Rattle.std.specs.Prelude.{ℕ, ◌<◌, List, [], set, get_or}
-use Rattle.graph_lang.specs.graph_base.declared.limits.TheConstants.{TASKS_MAX}
-use Rattle.graph_lang.specs.graph_base.declared.place.Place.TheVariants as place
+use Rattle.graph_base.specs.declared.limits.TheConstants.{TASKS_MAX}
+use Rattle.graph_base.specs.declared.place.Place.TheVariants as place
 use Rattle.stream_job.specs.Parking.{with_task}
 use Rattle.stream_job.specs.declared.made.Made.{Made}
 use Rattle.stream_job.specs.declared.made.Made.TheVariants as made

@@ -1,8 +1,8 @@
 -- The moments that a world stands for.
 use Rattle.std.specs.Prelude.{ℕ, List, Option, Some, None}
 use Rattle.std.specs.List.{All}
-use Rattle.stream_eval.specs.stream_lists.Jobs.{Job}
-use Rattle.stream_eval.specs.stream_lists.Ranges.{Where}
+use Rattle.stream_lists.specs.Jobs.{Job}
+use Rattle.stream_lists.specs.Ranges.{Where}
 use Rattle.graph_runs.specs.Moments.{Moment, HasAnsweredNone, HasAnsweredNoneBefore, started}
 use Rattle.graph_runs.specs.Settled.{IsFaultAt}
 use Rattle.stream_job.specs.declared.machine.Machine.{Machine}

@@ -1,13 +1,13 @@
 //! Places in which blocks are made.
 ghost use Rattle.std.specs.Prelude.{◌≡◌, ◌≤◌, ◌<◌, length, IfOk};
-ghost use Rattle.graph_lang.specs.graph_base.Graphs.{task_at};
+ghost use Rattle.graph_base.specs.Graphs.{task_at};
 ghost use Rattle.stream_job.specs.Buffers.{HasPlaces};
 
+use phase_accum::Outcome;
 use phase_any::Parcels;
-use phase_any::phase_accum::Outcome;
 use std::alloc::{AllocError, Global};
 use std::marker::Model;
-use stream_eval::stream_lists::Job;
+use stream_lists::Job;
 
 /// How many steps a task makes in one event of its own accord, at most.
 pub const OWN_STEPS: u64 = 64;

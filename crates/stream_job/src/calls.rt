@@ -1,23 +1,23 @@
 //! The calls of a task on its phasers.
 ghost use Rattle.std.specs.Prelude.{◌≡◌, ◌≢◌, ◌<◌, ◌≤◌, ◌+◌, ℕ, [], ◌∷◌, length, map, take, slice_range, Some, None, Ok, IfOk, IfErr, OnOk, OnErr};
-ghost use Rattle.phase_any.specs.phase_accum.Sends.{AreSends};
-ghost use Rattle.phase_any.specs.phase_accum.Values.{value_by};
-ghost use Rattle.phase_any.specs.phase_history.declared.event.Event.TheVariants.{Dropped, Registered, RegisteredNow};
-ghost use Rattle.phase_any.specs.phase_history.Histories.{History, done_of};
-ghost use Rattle.phase_any.specs.phase_history.Phases.{stream_of};
-ghost use Rattle.phase_any.specs.phase_core.Blocks.{written, before_too_big, after_in_range};
-ghost use Rattle.phase_any.specs.phase_history.Refusals.{drop_refusal, register_refusal, register_now_refusal};
-ghost use Rattle.phase_any.specs.phase_history.Replies.{signal_reply, wait_reply, wait_block_reply, after_signal, after_wait, after_wait_block};
-ghost use Rattle.graph_lang.specs.graph_base.Graphs.{phaser_at};
+ghost use Rattle.phase_accum.specs.Sends.{AreSends};
+ghost use Rattle.phase_accum.specs.Values.{value_by};
+ghost use Rattle.phase_history.specs.declared.event.Event.TheVariants.{Dropped, Registered, RegisteredNow};
+ghost use Rattle.phase_history.specs.Histories.{History, done_of};
+ghost use Rattle.phase_history.specs.Phases.{stream_of};
+ghost use Rattle.phase_core.specs.Blocks.{written, before_too_big, after_in_range};
+ghost use Rattle.phase_history.specs.Refusals.{drop_refusal, register_refusal, register_now_refusal};
+ghost use Rattle.phase_history.specs.Replies.{signal_reply, wait_reply, wait_block_reply, after_signal, after_wait, after_wait_block};
+ghost use Rattle.graph_base.specs.Graphs.{phaser_at};
 ghost use Rattle.graph_runs.specs.Moments.{one, limits_at, value_at};
 ghost use Rattle.graph_runs.specs.Turned.{with_at};
 
 use crate::machine::Machine;
+use phase_accum::Outcome;
 use phase_any::Parcels;
-use phase_any::phase_accum::Outcome;
-use phase_any::phase_base::Mode;
-use phase_any::phase_core::{Got, GotBlock, NoTask, RegisterRefusal, SignalRefusal, WaitRefusal};
-use stream_eval::stream_lists::Job;
+use phase_base::Mode;
+use phase_core::{Got, GotBlock, NoTask, RegisterRefusal, SignalRefusal, WaitRefusal};
+use stream_lists::Job;
 
 impl Machine {
     ghost use Rattle.stream_job.specs.Machines.{HasCores, HasSomeCores};

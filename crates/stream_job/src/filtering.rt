@@ -1,15 +1,15 @@
 //! What a filter makes of the outcomes of a block.
 ghost use Rattle.std.specs.Prelude.{◌≡◌, ◌+◌, ◌<◌, ◌≤◌, ◌++◌, List, ℤ, length, map, take, vec_capacity, Ok};
-ghost use Rattle.graph_lang.specs.graph_base.Graphs.{task_at};
-ghost use Rattle.graph_lang.specs.graph_base.declared.line.Kind.TheVariants.{Fir as filters};
+ghost use Rattle.graph_base.specs.Graphs.{task_at};
+ghost use Rattle.graph_base.specs.declared.line.Kind.TheVariants.{Fir as filters};
 ghost use Rattle.graph_runs.specs.Steps.{HasFilter};
-ghost use Rattle.stream_eval.specs.stream_lists.Lists.{number};
+ghost use Rattle.stream_lists.specs.Lists.{number};
 ghost use Rattle.stream_job.specs.Filtering.{HasFiltered};
 
-use graph_lang::stream_filters::{Fir, TooBigValue};
 use graph_runs::{filtered, filtered_all, number_taken};
-use phase_any::phase_accum::Outcome;
-use stream_eval::stream_lists::Job;
+use phase_accum::Outcome;
+use stream_filters::{Fir, TooBigValue};
+use stream_lists::Job;
 
 /// How many numbers a filter is given at once.
 const AT_ONCE: usize = 64;

@@ -1,9 +1,9 @@
 //! The turn of a task that takes no value out of range, and makes none known: where the next one
 //! is, the task stands before it.
 ghost use Rattle.std.specs.Prelude.{◌≡◌, ◌≢◌, ◌≤◌, ℕ, ℤ, List, drop, length, vec_capacity, IfOk, OnErr};
-ghost use Rattle.graph_lang.specs.stream_filters.declared.fault.TooBigValue.{TooBigValue as OutValue};
+ghost use Rattle.stream_filters.specs.declared.fault.TooBigValue.{TooBigValue as OutValue};
 ghost use Rattle.graph_runs.specs.Nexts as turns;
-ghost use Rattle.stream_eval.specs.stream_lists.Jobs.{with_samples};
+ghost use Rattle.stream_lists.specs.Jobs.{with_samples};
 ghost use Rattle.stream_job.specs.Buffers.{HasPlaces, most_steps};
 ghost use Rattle.stream_job.specs.InRange.{GoesSo, HasGone, IsNextGood, MayGo};
 ghost use Rattle.stream_job.specs.Plans.{IsPlan};
@@ -16,12 +16,12 @@ use crate::step::Step;
 use crate::turns::put_values;
 use crate::went::Went;
 use graph_lang::Place;
-use graph_lang::stream_filters::TooBigValue;
 use graph_runs::{Owed, input_of, number_taken, output_of, owed_after_exchange, sized};
-use phase_any::phase_accum::Outcome;
-use phase_any::phase_core::GotBlock;
+use phase_accum::Outcome;
+use phase_core::GotBlock;
 use std::alloc::AllocError;
-use stream_eval::stream_lists::Job;
+use stream_filters::TooBigValue;
+use stream_lists::Job;
 
 impl Machine {
     ghost use Rattle.stream_job.specs.Machines.{MayHaveCome};

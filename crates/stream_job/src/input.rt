@@ -1,10 +1,10 @@
 //! The samples of a source that are still to be signalled.
 ghost use Rattle.std.specs.Prelude.{◌≡◌, ◌≤◌, ◌-◌, ◌+◌, ◌++◌, ℤ, List, [], length, take, drop, vec_capacity, IfOk, false, true};
-ghost use Rattle.phase_any.specs.phase_accum.Sends.{AreSends};
+ghost use Rattle.phase_accum.specs.Sends.{AreSends};
 ghost use Rattle.stream_job.specs.Streams.{InputKeeps, feed_takes};
 
 use std::alloc::{AllocError, Global};
-use stream_eval::stream_lists::COUNT_MAX;
+use stream_lists::COUNT_MAX;
 
 /// How many samples of a source may wait to be signalled.
 pub const INPUT_ROOM: usize = 4096;

@@ -44,20 +44,15 @@ mod turns;
 mod went;
 mod world;
 
-pub use graph_lang;
-pub use graph_lang::{graph_base, stream_filters};
-pub use graph_runs;
-pub use phase_any;
-pub use phase_any::{phase_accum, phase_base, phase_core, phase_history};
 pub use runs::{RunTurnsFault, run_turns};
 pub use step::Step;
 pub use stopped::Stopped;
 pub use stream::Stream;
-pub use stream_eval::stream_lists::{
-    Job, JobRefusal, LENGTH_MAX, Span, input_number, laws, number_of, output_number, taken_count,
-};
 pub use stream_eval::{EvalFault, Lines, eval};
 pub use stream_gone::starts_are_in_time;
+pub use stream_lists::{
+    Job, JobRefusal, LENGTH_MAX, Span, input_number, number_of, output_number, taken_count,
+};
 pub use text_jobs::job_of;
 pub use turned::Turned;
 pub use world::World;

@@ -1,13 +1,13 @@
 //! What a task does next.
 ghost use Rattle.std.specs.Prelude.{◌≡◌, ◌<◌, ◌&&◌, ℤ, List, nat_le, not, true, is_some, length, Some, None};
-ghost use Rattle.phase_any.specs.phase_base.Limits.{Limits};
-ghost use Rattle.phase_any.specs.phase_base.Members.{entry_of};
-ghost use Rattle.phase_any.specs.phase_history.Histories.{History, members_of, done_of};
+ghost use Rattle.phase_base.specs.Limits.{Limits};
+ghost use Rattle.phase_base.specs.Members.{entry_of};
+ghost use Rattle.phase_history.specs.Histories.{History, members_of, done_of};
 ghost use Rattle.phase_any.specs.Phasers.{PhaserStandsFor};
-ghost use Rattle.graph_lang.specs.graph_base.Graphs.{phaser_at, task_at};
+ghost use Rattle.graph_base.specs.Graphs.{phaser_at, task_at};
 ghost use Rattle.stream_job.specs.Machines.{next_by};
 ghost use Rattle.stream_job.specs.Plans.{IsPlan};
-ghost use Rattle.stream_eval.specs.stream_lists.Jobs.{with_samples};
+ghost use Rattle.stream_lists.specs.Jobs.{with_samples};
 ghost use Rattle.graph_runs.specs.Moments.{Moment, limits_at};
 ghost use Rattle.graph_runs.specs.Nexts.{next_of, at_boundary, without_child, is_live, is_due, comes_by, first_due, has_signaller, next_step};
 
@@ -18,8 +18,8 @@ use crate::task_state::TaskState;
 use graph_lang::{Op, Parent};
 use graph_runs::{Owed, first_input_of, input_of, is_cut, parent_of, until_of};
 use phase_any::AnyPhaser;
-use phase_any::phase_base::Entry;
-use stream_eval::stream_lists::Job;
+use phase_base::Entry;
+use stream_lists::Job;
 
 impl Machine {
     ghost use Rattle.stream_job.specs.Places.{IsTaskAt};

@@ -1,17 +1,17 @@
 //! The phasers of a graph at its opening.
 ghost use Rattle.std.specs.Prelude.{◌≡◌, ◌<◌, ◌≤◌, ◌+◌, length, slice_get, Some, IfOk, OnOk, ℕ};
-ghost use Rattle.graph_lang.specs.graph_base.Graphs.{phaser_at};
-ghost use Rattle.graph_lang.specs.graph_base.TaskLines.{IsGraph};
+ghost use Rattle.graph_base.specs.Graphs.{phaser_at};
+ghost use Rattle.graph_base.specs.TaskLines.{IsGraph};
 ghost use Rattle.graph_runs.specs.Moments.{limits_at};
 ghost use Rattle.phase_any.specs.Phasers.{PhaserStandsFor};
 ghost use Rattle.graph_runs.specs.Beginnings.{roots_joined, opening};
 
 use crate::roots::root_mode;
 use phase_any::AnyPhaser;
-use phase_any::phase_base::{PHASES_MAX, Spec};
-use phase_any::phase_core::RegisterRefusal;
+use phase_base::{PHASES_MAX, Spec};
+use phase_core::RegisterRefusal;
 use std::alloc::{AllocError, Global};
-use stream_eval::stream_lists::Job;
+use stream_lists::Job;
 
 /// Registers task number `t` on phaser number `p`, where it begins there, as the next number.
 fn join_root(core: &mut AnyPhaser, job: &Job, p: usize, t: usize) -> Result<(), AllocError>

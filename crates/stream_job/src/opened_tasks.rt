@@ -1,10 +1,10 @@
 //! The tasks of a graph at its opening.
 ghost use Rattle.std.specs.Prelude.{◌≡◌, ◌<◌, ◌≤◌, ℕ, [], length, slice_get, Some, IfOk, vec_capacity};
-ghost use Rattle.graph_lang.specs.graph_base.Graphs.{task_at};
-ghost use Rattle.graph_lang.specs.graph_base.declared.line.Kind.TheVariants.{Fir as filters};
+ghost use Rattle.graph_base.specs.Graphs.{task_at};
+ghost use Rattle.graph_base.specs.declared.line.Kind.TheVariants.{Fir as filters};
 ghost use Rattle.std.specs.List.{filter, range_with_len};
-ghost use Rattle.graph_lang.specs.graph_base.TaskLines.{HasBlock, IsGraph};
-ghost use Rattle.stream_eval.specs.stream_lists.Lists.{is_sink_at};
+ghost use Rattle.graph_base.specs.TaskLines.{HasBlock, IsGraph};
+ghost use Rattle.stream_lists.specs.Lists.{is_sink_at};
 ghost use Rattle.graph_runs.specs.NextBlocks.{with_block};
 ghost use Rattle.graph_runs.specs.Nexts.{registrations_at};
 ghost use Rattle.graph_runs.specs.TaskPlaces.{registration_at};
@@ -15,12 +15,12 @@ ghost use Rattle.stream_job.specs.Places.{IsOpened};
 use crate::buffers::OWN_STEPS;
 use crate::roots::root_number;
 use crate::task_state::TaskState;
-use graph_lang::graph_base::Kind;
-use graph_lang::stream_filters::TooBigValue;
+use graph_base::Kind;
 use graph_runs::{Owed, first_filter, input_of, kind_of, output_of, parent_of};
 use smallvec::SmallVec;
 use std::alloc::{AllocError, Global};
-use stream_eval::stream_lists::Job;
+use stream_filters::TooBigValue;
+use stream_lists::Job;
 
 /// The numbers of task number `t` on its phasers, none of a child's. It takes no memory.
 fn root_numbers(alloc: Global, job: &Job, t: usize) -> SmallVec<u64, 9>

@@ -2,7 +2,7 @@
 ghost use Rattle.std.specs.Prelude.{◌≡◌, ◌<◌, ◌≤◌, [], length, map, None, IfOk};
 ghost use Rattle.std.specs.List.{All};
 ghost use Rattle.stream_eval.specs.Results.{sink_values};
-ghost use Rattle.stream_eval.specs.stream_lists.Lists.{sinks_of};
+ghost use Rattle.stream_lists.specs.Lists.{sinks_of};
 ghost use Rattle.graph_runs.specs.Beginnings.{opening};
 ghost use Rattle.stream_job.specs.Machines.{IsLineOf};
 
@@ -12,7 +12,7 @@ use crate::opened_cores::opened_cores;
 use crate::opened_tasks::opened_tasks;
 use std::alloc::{AllocError, Global};
 use stream_eval::Lines;
-use stream_eval::stream_lists::Job;
+use stream_lists::Job;
 
 /// A sink that has taken nothing, with room for all that it takes.
 fn opened_line(alloc: Global, job: &Job, t: usize) -> Result<Lines, AllocError>

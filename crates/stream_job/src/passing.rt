@@ -3,20 +3,20 @@
 ghost use Rattle.std.specs.Prelude.{◌≡◌, ◌<◌, ℤ, List, IfSome, length, true, false};
 ghost use Rattle.graph_runs.specs.Moments.{Moment};
 ghost use Rattle.graph_runs.specs.Nexts.{is_live};
-ghost use Rattle.stream_eval.specs.stream_lists.Jobs.{with_samples};
+ghost use Rattle.stream_lists.specs.Jobs.{with_samples};
 ghost use Rattle.stream_job.specs.Buffers.{HasPlaces};
 ghost use Rattle.stream_job.specs.Passing.{MayStepFrom, MakesSteps, goes_by_steps};
 ghost use Rattle.stream_job.specs.Plans.{IsPlan};
-ghost use Rattle.graph_lang.specs.graph_base.Graphs.{task_at};
+ghost use Rattle.graph_base.specs.Graphs.{task_at};
 
 use crate::buffers::{Buffers, OWN_STEPS};
 use crate::machine::Machine;
 use crate::plan::Plan;
-use graph_lang::graph_base::Kind;
+use graph_base::Kind;
 use graph_runs::{Owed, first_input_of, input_of, is_cut, kind_of, output_of, until_of};
-use phase_any::phase_accum::Outcome;
-use phase_any::phase_core::GotBlock;
-use stream_eval::stream_lists::Job;
+use phase_accum::Outcome;
+use phase_core::GotBlock;
+use stream_lists::Job;
 
 impl Machine {
     ghost use Rattle.stream_job.specs.Machines.{IsMachineAt, IsSome};

@@ -1,9 +1,9 @@
 //! What the turns of a task ask of the lines of its graph, found once.
 ghost use Rattle.std.specs.Prelude.{◌≡◌, ◌<◌, ◌≤◌, ℕ, true, false, Some, drop, length, IfOk};
-ghost use Rattle.phase_any.specs.phase_accum.Sends.{AreSends};
-ghost use Rattle.graph_lang.specs.graph_base.declared.line.Parent.{Parent as ParentValue};
-ghost use Rattle.graph_lang.specs.graph_base.Graphs.{task_at};
-ghost use Rattle.stream_eval.specs.stream_lists.Jobs.{samples_at};
+ghost use Rattle.phase_accum.specs.Sends.{AreSends};
+ghost use Rattle.graph_base.specs.declared.line.Parent.{Parent as ParentValue};
+ghost use Rattle.graph_base.specs.Graphs.{task_at};
+ghost use Rattle.stream_lists.specs.Jobs.{samples_at};
 ghost use Rattle.graph_runs.specs.Nexts.{comes_by};
 ghost use Rattle.stream_job.specs.Plans.{IsPlan, IsTaskPlan, NoneComes, children_of, is_child_of};
 
@@ -11,7 +11,7 @@ use crate::task_state::TaskState;
 use graph_lang::Parent;
 use graph_runs::parent_of;
 use std::alloc::{AllocError, Global};
-use stream_eval::stream_lists::Job;
+use stream_lists::Job;
 
 /// What the turns of one task ask.
 #[derive(Drop)]

@@ -1,7 +1,7 @@
 //! How many steps the next block of a task has.
 ghost use Rattle.std.specs.Prelude.{◌≡◌, ◌<◌, length};
 ghost use Rattle.std.specs.List.{fold, range_with_len};
-ghost use Rattle.graph_lang.specs.graph_base.Graphs.{task_at};
+ghost use Rattle.graph_base.specs.Graphs.{task_at};
 ghost use Rattle.graph_runs.specs.Moments.{Moment};
 ghost use Rattle.graph_runs.specs.NextBlocks.{block_up_to, child_allows, until_allows};
 ghost use Rattle.stream_job.specs.Plans.{IsPlan};
@@ -9,7 +9,7 @@ ghost use Rattle.stream_job.specs.Plans.{IsPlan};
 use crate::plan::Plan;
 use graph_lang::Parent;
 use graph_runs::{parent_of, until_of};
-use stream_eval::stream_lists::Job;
+use stream_lists::Job;
 
 impl Plan {
     /// How many steps the next block of task number `t` has, which has begun so many: at most this

@@ -1,10 +1,10 @@
 //! The tasks that begin with a run, which are those without a parent.
 ghost use Rattle.std.specs.Prelude.{◌≡◌, ◌<◌, ◌≤◌, ◌+◌, length};
-ghost use Rattle.phase_any.specs.phase_history.Histories.{greatest_used};
+ghost use Rattle.phase_history.specs.Histories.{greatest_used};
 ghost use Rattle.graph_runs.specs.Beginnings.{mode_on, root_mode, roots_joined};
 
-use phase_any::phase_base::Mode;
-use stream_eval::stream_lists::Job;
+use phase_base::Mode;
+use stream_lists::Job;
 
 /// The mode in which task number `t` is registered on phaser number `p`, where it is.
 fn mode_on(job: &Job, t: usize, p: usize) -> Option<Mode>

@@ -1,6 +1,6 @@
 //! Runs of a graph by given turns.
 ghost use Rattle.std.specs.Prelude.{◌≡◌, ℕ, None, Err, IfOk, OnOk};
-ghost use Rattle.graph_lang.specs.graph_base.declared.place.Place.{Place as PlaceValue};
+ghost use Rattle.graph_base.specs.declared.place.Place.{Place as PlaceValue};
 ghost use Rattle.graph_runs.specs.Answers.{after_turns};
 ghost use Rattle.graph_runs.specs.Beginnings.{opening};
 ghost use Rattle.stream_job.specs.Runs.{TellsNone, TellsTooBig};
@@ -10,7 +10,7 @@ use crate::turned::Turned;
 use crate::world::World;
 use graph_lang::Place;
 use std::alloc::{AllocError, AllocFailed, Global};
-use stream_eval::stream_lists::Job;
+use stream_lists::Job;
 use thiserror::Error;
 
 /// Why a run by given turns came to no end.

@@ -2,13 +2,13 @@
 ghost use Rattle.std.specs.Prelude.{◌≡◌, ◌<◌, [], length, map, None, IfOk};
 ghost use Rattle.std.specs.List.{All};
 ghost use Rattle.stream_eval.specs.Results.{sink_values};
-ghost use Rattle.stream_eval.specs.stream_lists.Lists.{sinks_of};
+ghost use Rattle.stream_lists.specs.Lists.{sinks_of};
 ghost use Rattle.stream_job.specs.Machines.{HasRoom};
 ghost use Rattle.stream_job.specs.Streams.{line_room};
 
 use std::alloc::{AllocError, Global};
 use stream_eval::Lines;
-use stream_eval::stream_lists::Job;
+use stream_lists::Job;
 
 /// How many values a sink keeps until they are forgotten, at least; more where its line names a
 /// greater block.

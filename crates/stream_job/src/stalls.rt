@@ -1,15 +1,15 @@
 //! Whether no task can move.
 ghost use Rattle.std.specs.Prelude.{◌≡◌, ◌<◌, ◌≤◌, ◌&&◌, ◌||◌, ℕ, ℤ, List, true, false, nat_le, length, get_or, Some};
 ghost use Rattle.std.specs.List.{list_any, list_all, range_with_len};
-ghost use Rattle.phase_any.specs.phase_base.Limits.{Limits};
-ghost use Rattle.phase_any.specs.phase_base.Members.{least, wait_phases};
-ghost use Rattle.phase_any.specs.phase_history.Histories.{History, members_of, done_of};
-ghost use Rattle.phase_any.specs.phase_history.Refusals.{is_ahead};
-ghost use Rattle.graph_lang.specs.graph_base.Graphs.{phaser_at, task_at};
-ghost use Rattle.graph_lang.specs.graph_base.Registrations.{signalled_by};
+ghost use Rattle.phase_base.specs.Limits.{Limits};
+ghost use Rattle.phase_base.specs.Members.{least, wait_phases};
+ghost use Rattle.phase_history.specs.Histories.{History, members_of, done_of};
+ghost use Rattle.phase_history.specs.Refusals.{is_ahead};
+ghost use Rattle.graph_base.specs.Graphs.{phaser_at, task_at};
+ghost use Rattle.graph_base.specs.Registrations.{signalled_by};
 ghost use Rattle.phase_any.specs.Phasers.{PhaserStandsFor};
-ghost use Rattle.graph_lang.specs.graph_base.declared.line.Kind.TheVariants.{Source};
-ghost use Rattle.phase_any.specs.phase_accum.Sends.{AreSends};
+ghost use Rattle.graph_base.specs.declared.line.Kind.TheVariants.{Source};
+ghost use Rattle.phase_accum.specs.Sends.{AreSends};
 ghost use Rattle.graph_runs.specs.Feeds.{IsFed};
 ghost use Rattle.graph_runs.specs.Moments.{Moment, limits_at, input_at};
 ghost use Rattle.graph_runs.specs.Nexts.{has_signaller, is_live, number_on, samples, signals};
@@ -20,7 +20,7 @@ ghost use Rattle.stream_job.specs.InRange.{is_blocked_before, is_held_up};
 ghost use Rattle.stream_job.specs.Machines.{next_by};
 ghost use Rattle.stream_job.specs.Plans.{IsPlan};
 ghost use Rattle.stream_job.specs.Streams.{IsStreamAt, StreamState, all_tasks, ended_at};
-ghost use Rattle.stream_eval.specs.stream_lists.Jobs.{samples_in, with_samples};
+ghost use Rattle.stream_lists.specs.Jobs.{samples_in, with_samples};
 
 use crate::machine::Machine;
 use crate::parked::Parked;
@@ -30,8 +30,8 @@ use crate::step::Step;
 use graph_lang::{Op, TASKS_MAX};
 use graph_runs::{input_of, output_of};
 use phase_any::AnyPhaser;
-use phase_any::phase_base::PHASES_MAX;
-use stream_eval::stream_lists::Job;
+use phase_base::PHASES_MAX;
+use stream_lists::Job;
 
 impl Machine {
     ghost use Rattle.stream_job.specs.Machines.{HasLineSizes, IsLiveSome, IsMachine, IsMachineAt, IsSome, MayHaveCome};

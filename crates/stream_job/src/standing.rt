@@ -2,13 +2,13 @@
 ghost use Rattle.std.specs.Prelude.{◌≡◌, ◌<◌, ℤ, List, length};
 ghost use Rattle.graph_runs.specs.Moments.{Moment};
 ghost use Rattle.graph_runs.specs.Nexts.{registrations_at};
-ghost use Rattle.stream_eval.specs.stream_lists.Jobs.{with_samples};
+ghost use Rattle.stream_lists.specs.Jobs.{with_samples};
 ghost use Rattle.stream_job.specs.Machines.{IsMachineAt, IsSome};
 ghost use Rattle.stream_job.specs.Standing.{standing_on};
 
 use crate::machine::Machine;
-use phase_any::phase_base::Entry;
-use stream_eval::stream_lists::Job;
+use phase_base::Entry;
+use stream_lists::Job;
 
 impl Machine {
     /// The mode and the phases of task number `t` on the phaser of its registration number `k`,

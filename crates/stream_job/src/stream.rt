@@ -2,19 +2,19 @@
 ghost use Rattle.std.specs.Prelude.{◌≡◌, ◌<◌, ◌++◌, ℕ, ℤ, List, None, Some, Err, [], length, map, get_or, take, IfOk, false};
 ghost use Rattle.std.specs.List.{All, range_with_len};
 ghost use mathlib.Core.List.{IsPrefix};
-ghost use Rattle.phase_any.specs.phase_accum.Sends.{AreSends};
-ghost use Rattle.graph_lang.specs.graph_base.Graphs.{sources_of, task_at};
-ghost use Rattle.stream_eval.specs.stream_lists.Jobs.{counted, with_samples};
-ghost use Rattle.stream_eval.specs.stream_lists.Meetings.{meeting_line};
-ghost use Rattle.stream_eval.specs.stream_lists.Lists.{numbers_of, sinks_of, taken_from};
-ghost use Rattle.stream_eval.specs.stream_lists.Spans.{span_in};
+ghost use Rattle.phase_accum.specs.Sends.{AreSends};
+ghost use Rattle.graph_base.specs.Graphs.{sources_of, task_at};
+ghost use Rattle.stream_lists.specs.Jobs.{counted, with_samples};
+ghost use Rattle.stream_lists.specs.Meetings.{meeting_line};
+ghost use Rattle.stream_lists.specs.Lists.{numbers_of, sinks_of, taken_from};
+ghost use Rattle.stream_lists.specs.Spans.{span_in};
 ghost use Rattle.graph_runs.specs.Beginnings.{opening};
 ghost use Rattle.graph_runs.specs.Feeds.{IsFed};
 ghost use Rattle.graph_runs.specs.Moments.{Moment, started};
 ghost use Rattle.graph_runs.specs.Nexts.{is_live};
 ghost use Rattle.graph_runs.specs.Settled.{IsReady};
 ghost use Rattle.graph_runs.specs.Turned.{with_at};
-ghost use Rattle.stream_eval.specs.stream_lists.JobFields.{items_of};
+ghost use Rattle.stream_lists.specs.JobFields.{items_of};
 ghost use Rattle.stream_job.specs.Machines.{none_given};
 ghost use Rattle.stream_job.specs.Streams.{AreInputs, IsApart, IsStreamAt, InputKeeps, has_ended, most_of, none_came};
 
@@ -23,12 +23,12 @@ use crate::input::Input;
 use crate::machine::Machine;
 use crate::plan::Plan;
 use crate::sink_lines::bounded_lines;
+use graph_base::Graph;
 use graph_lang::Place;
-use graph_lang::graph_base::Graph;
 use graph_runs::feeds;
 use std::alloc::{AllocError, Global};
 use std::marker::Model;
-use stream_eval::stream_lists::{COUNT_MAX, Job, JobRefusal, list_laws, meeting_with};
+use stream_lists::{COUNT_MAX, Job, JobRefusal, list_laws, meeting_with};
 
 /// A run of a graph whose samples come in pieces, on one thread: it is fed, goes on until no task
 /// can move, and is read.

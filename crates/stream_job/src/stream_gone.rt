@@ -1,9 +1,9 @@
 //! A sink of a run that is fed, once it has left.
 ghost use Rattle.std.specs.Prelude.{◌≡◌, ◌<◌, ℕ, ℤ, List, length, get_or, true};
-ghost use Rattle.graph_lang.specs.graph_base.Graphs.{task_at};
-ghost use Rattle.stream_eval.specs.stream_lists.Jobs.{with_samples};
-ghost use Rattle.stream_eval.specs.stream_lists.Lists.{numbers_of, sinks_of, taken_from};
-ghost use Rattle.stream_eval.specs.stream_lists.Spans.{span_in};
+ghost use Rattle.graph_base.specs.Graphs.{task_at};
+ghost use Rattle.stream_lists.specs.Jobs.{with_samples};
+ghost use Rattle.stream_lists.specs.Lists.{numbers_of, sinks_of, taken_from};
+ghost use Rattle.stream_lists.specs.Spans.{span_in};
 ghost use Rattle.graph_runs.specs.Feeds.{IsFed};
 ghost use Rattle.graph_runs.specs.InTime.{BeginsInTime};
 ghost use Rattle.graph_runs.specs.Moments.{Moment, started};

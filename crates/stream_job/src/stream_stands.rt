@@ -3,14 +3,14 @@ ghost use Rattle.std.specs.Prelude.{◌≡◌, ◌<◌, ◌++◌, ℕ, ℤ, List
 ghost use Rattle.std.specs.List.{flat_map, range_with_len};
 ghost use Rattle.graph_runs.specs.Moments.{Moment};
 ghost use Rattle.graph_runs.specs.Nexts.{next_of, registrations_at};
-ghost use Rattle.stream_eval.specs.stream_lists.Jobs.{with_samples};
+ghost use Rattle.stream_lists.specs.Jobs.{with_samples};
 ghost use Rattle.stream_job.specs.Machines.{next_by};
 ghost use Rattle.stream_job.specs.Stands.{call_end, stand_by, stands_at, stands_of};
 
 use crate::step::Step;
 use crate::stream::Stream;
 use std::alloc::{AllocError, Global};
-use stream_eval::stream_lists::{End, Stand};
+use stream_lists::{End, Stand};
 
 impl Stream {
     ghost use Rattle.stream_job.specs.Streams.{IsStreamAt};

@@ -1,9 +1,9 @@
 //! Where a run that is fed stops.
 ghost use Rattle.std.specs.Prelude.{◌≡◌, ◌≢◌, ◌<◌, ◌+◌, ◌-◌, ◌&&◌, ℕ, ℤ, List, IfSome, None, false, length, nat_lt, not, true};
 ghost use Rattle.std.specs.List.{find, list_all};
-ghost use Rattle.stream_eval.specs.stream_lists.Jobs.{with_samples};
-ghost use Rattle.stream_eval.specs.stream_lists.Lists.{is_sink_at};
-ghost use Rattle.graph_lang.specs.graph_base.Graphs.{sources_of};
+ghost use Rattle.stream_lists.specs.Jobs.{with_samples};
+ghost use Rattle.stream_lists.specs.Lists.{is_sink_at};
+ghost use Rattle.graph_base.specs.Graphs.{sources_of};
 ghost use Rattle.graph_runs.specs.Feeds.{is_starved};
 ghost use Rattle.graph_runs.specs.Moments.{Moment};
 ghost use Rattle.graph_runs.specs.NextBlocks.{block_up_to};
@@ -24,7 +24,7 @@ use crate::stopped::Stopped;
 use crate::stream::Stream;
 use graph_lang::Place;
 use graph_runs::{is_cut, until_of};
-use stream_eval::stream_lists::Job;
+use stream_lists::Job;
 
 impl Stream {
     ghost use Rattle.stream_job.specs.Rounds.{LooksSo, StopsSo};

@@ -1,17 +1,17 @@
 //! The turns of a run that is fed.
 ghost use Rattle.std.specs.Prelude.{◌≡◌, ◌≢◌, ◌<◌, ◌≤◌, ◌+◌, ◌-◌, ◌||◌, nat_lt, ℕ, ℤ, List, Ok, IfOk, OnErr, length, map, false, true, None, Some};
-ghost use Rattle.stream_eval.specs.stream_lists.Jobs.{with_samples};
-ghost use Rattle.stream_eval.specs.stream_lists.Ranges.{answer_of};
-ghost use Rattle.graph_lang.specs.graph_base.declared.place.Place.{Place as PlaceValue};
-ghost use Rattle.graph_lang.specs.graph_base.declared.line.Kind.TheVariants.{Fir as filters};
-ghost use Rattle.graph_lang.specs.graph_base.Graphs.{phaser_at, task_at};
-ghost use Rattle.graph_lang.specs.graph_base.Registrations.{signalled_by};
+ghost use Rattle.stream_lists.specs.Jobs.{with_samples};
+ghost use Rattle.stream_lists.specs.Ranges.{answer_of};
+ghost use Rattle.graph_base.specs.declared.place.Place.{Place as PlaceValue};
+ghost use Rattle.graph_base.specs.declared.line.Kind.TheVariants.{Fir as filters};
+ghost use Rattle.graph_base.specs.Graphs.{phaser_at, task_at};
+ghost use Rattle.graph_base.specs.Registrations.{signalled_by};
 ghost use Rattle.graph_runs.specs.Answers.{output_at};
 ghost use Rattle.graph_runs.specs.Feeds.{IsFed};
 ghost use Rattle.graph_runs.specs.Moments.{Moment, started};
 ghost use Rattle.graph_runs.specs.Settled.{IsFaultAt, IsReady};
 ghost use Rattle.graph_runs.specs.TaskPlaces.{registration_of_output};
-ghost use Rattle.phase_any.specs.phase_history.Refusals.{is_ahead};
+ghost use Rattle.phase_history.specs.Refusals.{is_ahead};
 ghost use Rattle.stream_job.specs.Rounds.{first_met};
 
 use crate::buffers::OWN_STEPS;
@@ -22,10 +22,10 @@ use crate::stopped::Stopped;
 use crate::stream::Stream;
 use crate::stream_stops::awaited;
 use crate::went::Went;
+use graph_base::Kind;
 use graph_lang::Place;
-use graph_lang::graph_base::Kind;
 use graph_runs::{feeds, input_of, kind_of, outcomes, output_of};
-use phase_any::phase_base::PHASES_MAX;
+use phase_base::PHASES_MAX;
 use std::alloc::AllocError;
 
 /// The turns that a task gets one after the other, while it moves, at most.

@@ -1,25 +1,25 @@
 //! How far a task has come.
 ghost use Rattle.std.specs.Prelude.{◌≡◌, ◌<◌, ◌≤◌, ◌+◌, [], not, is_some, length, map, List, ℤ, vec_capacity};
 ghost use Rattle.std.specs.List.{position_from};
-ghost use Rattle.graph_lang.specs.graph_base.declared.line.Kind.TheVariants.{Fir as filters};
+ghost use Rattle.graph_base.specs.declared.line.Kind.TheVariants.{Fir as filters};
 ghost use Rattle.stream_job.specs.Stepping.{is_value_out};
-ghost use Rattle.stream_eval.specs.stream_lists.Lists.{number};
+ghost use Rattle.stream_lists.specs.Lists.{number};
 ghost use Rattle.graph_runs.specs.Moves.{IsBlock};
 ghost use Rattle.graph_runs.specs.declared.owed.Owed.TheVariants.{Nothing};
-ghost use Rattle.graph_lang.specs.graph_base.Graphs.{task_at};
-ghost use Rattle.stream_eval.specs.stream_lists.Jobs.{with_samples};
+ghost use Rattle.graph_base.specs.Graphs.{task_at};
+ghost use Rattle.stream_lists.specs.Jobs.{with_samples};
 ghost use Rattle.graph_runs.specs.Steps.{HasFilter};
 ghost use Rattle.graph_runs.specs.Moments.{Moment};
 ghost use Rattle.graph_runs.specs.Nexts.{first_missing, is_live};
 ghost use Rattle.graph_runs.specs.TaskPlaces.{StandsUpTo};
 
 use crate::filtering::filter_all;
-use graph_lang::graph_base::Kind;
-use graph_lang::stream_filters::{Fir, TooBigValue};
+use graph_base::Kind;
 use graph_runs::{Owed, kind_of, number_taken, owed_after_wait};
-use phase_any::phase_accum::Outcome;
+use phase_accum::Outcome;
 use smallvec::SmallVec;
-use stream_eval::stream_lists::Job;
+use stream_filters::{Fir, TooBigValue};
+use stream_lists::Job;
 
 /// Where a task stands.
 #[derive(Drop)]

@@ -2,12 +2,12 @@
 
 ghost use Rattle.std.specs.Prelude.{◌≤◌, length, IfOk};
 ghost use Rattle.std.specs.List.{All};
-ghost use Rattle.phase_any.specs.phase_accum.Sends.{AreSends};
+ghost use Rattle.phase_accum.specs.Sends.{AreSends};
 
 use graph_lang::{TEXT_MAX, read_graph, samples_of};
 use std::alloc::{AllocError, Global};
 use std::test::Fail;
-use stream_eval::stream_lists::{Job, JobRefusal};
+use stream_lists::{Job, JobRefusal};
 
 /// The job of a graph, on samples of these texts, one for each source, or why there is none.
 ///

@@ -1,10 +1,10 @@
 //! The turn of a task, by what it does next.
 ghost use Rattle.std.specs.Prelude.{◌≡◌, ◌≢◌, ◌<◌, ◌≤◌, ◌+◌, ◌++◌, ◌∷◌, [], ℕ, ℤ, List, true, length, map, take, slice_get, Some, None, Ok, IfSome, IfOk, IfErr, OnOk, OnErr, if◌then◌else◌, vec_capacity};
 ghost use Rattle.std.specs.List.{All, position_from};
-ghost use Rattle.graph_lang.specs.graph_base.Graphs.{task_at};
-ghost use Rattle.graph_lang.specs.graph_base.declared.line.Kind.TheVariants.{Fir as filters};
-ghost use Rattle.phase_any.specs.phase_history.Histories.{History, done_of};
-ghost use Rattle.graph_lang.specs.stream_filters.Range.{ranged};
+ghost use Rattle.graph_base.specs.Graphs.{task_at};
+ghost use Rattle.graph_base.specs.declared.line.Kind.TheVariants.{Fir as filters};
+ghost use Rattle.phase_history.specs.Histories.{History, done_of};
+ghost use Rattle.stream_filters.specs.Range.{ranged};
 ghost use Rattle.graph_runs.specs.Moments.{Moment};
 ghost use Rattle.graph_runs.specs.Answers.{values_up_to, told_got};
 ghost use Rattle.graph_runs.specs.Turned.{with_at};
@@ -15,8 +15,8 @@ ghost use Rattle.stream_job.specs.Stepping.{HasDone, HasRoomIn, HasRoomNext, IsN
 ghost use Rattle.stream_job.specs.Buffers.{HasPlaces, most_steps};
 ghost use Rattle.stream_job.specs.Plans.{IsPlan};
 ghost use Rattle.stream_job.specs.SinkLines.{kept_of};
-ghost use Rattle.stream_eval.specs.stream_lists.Jobs.{with_samples};
-ghost use Rattle.stream_eval.specs.stream_lists.Lists.{is_sink_at};
+ghost use Rattle.stream_lists.specs.Jobs.{with_samples};
+ghost use Rattle.stream_lists.specs.Lists.{is_sink_at};
 
 use crate::buffers::Buffers;
 use crate::machine::Machine;
@@ -26,15 +26,15 @@ use crate::step::Step;
 use crate::task_state::TaskState;
 use crate::turned::Turned;
 use graph_lang::Place;
-use graph_lang::stream_filters::TooBigValue;
 use graph_runs::{
     Owed, input_of, number_taken, output_of, owed_after_exchange, owed_after_signal, sized,
 };
-use phase_any::phase_accum::Outcome;
-use phase_any::phase_base::Mode;
-use phase_any::phase_core::{Got, GotBlock, RegisterRefusal};
+use phase_accum::Outcome;
+use phase_base::Mode;
+use phase_core::{Got, GotBlock, RegisterRefusal};
 use std::alloc::AllocError;
-use stream_eval::stream_lists::Job;
+use stream_filters::TooBigValue;
+use stream_lists::Job;
 
 impl Machine {
     ghost use Rattle.stream_job.specs.Machines.{HasCores, HasRoom, IsLiveSome, IsMachineAt, IsSome, MayHaveCome, kept_behind, most_in, next_by};

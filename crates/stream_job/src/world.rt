@@ -2,10 +2,10 @@
 ghost use Rattle.std.specs.Prelude.{◌≡◌, ◌≢◌, ◌<◌, ℕ, Some, None, Ok, [], length, get_or, map, IfOk, OnOk, OnErr, true, false};
 ghost use mathlib.Core.List.{IsPrefix};
 ghost use Rattle.stream_eval.specs.Results.{sink_values};
-ghost use Rattle.stream_eval.specs.stream_lists.Lists.{is_sink_at, numbers_of, sinks_of, taken_from};
-ghost use Rattle.stream_eval.specs.stream_lists.Spans.{span_in};
-ghost use Rattle.graph_lang.specs.graph_base.Graphs.{task_at};
-ghost use Rattle.stream_eval.specs.stream_lists.Ranges.{answer_of};
+ghost use Rattle.stream_lists.specs.Lists.{is_sink_at, numbers_of, sinks_of, taken_from};
+ghost use Rattle.stream_lists.specs.Spans.{span_in};
+ghost use Rattle.graph_base.specs.Graphs.{task_at};
+ghost use Rattle.stream_lists.specs.Ranges.{answer_of};
 ghost use Rattle.graph_runs.specs.Moments.{Moment, started};
 ghost use Rattle.graph_runs.specs.Beginnings.{opening};
 ghost use Rattle.graph_runs.specs.Nexts.{is_live, next_of, registrations_at};
@@ -21,11 +21,11 @@ use crate::step::Step;
 use crate::turned::Turned;
 use graph_lang::Place;
 use graph_runs::{moments, outcomes, turns};
-use phase_any::phase_base::Entry;
+use phase_base::Entry;
 use std::alloc::{AllocError, Global};
 use std::marker::Model;
 use stream_eval::Lines;
-use stream_eval::stream_lists::Job;
+use stream_lists::Job;
 
 /// A run of a graph on one thread, which goes on by turns of its tasks.
 ///

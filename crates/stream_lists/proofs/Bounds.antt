@@ -12,7 +12,7 @@ use Rattle.std.proofs.Math.Nat.{add-mul, div-zero}
 use native.Mathlib.Nat.{zero-max}
 use Rattle.graph_base.specs.Graphs.{Graph, Task, task_at, source_number}
 use Rattle.graph_base.specs.TaskLines.{IsGraph, IsTaskLine, IsParent, HasEnds, has_children}
-use Rattle.graph_base.specs.phase_base.Lists.{is_distinct}
+use Rattle.phase_base.specs.Lists.{is_distinct}
 use Rattle.graph_base.specs.declared.line.Kind.{Kind}
 use Rattle.graph_base.specs.declared.line.Kind.TheVariants.{Source, Fir, Split, Decimate, Join, Peer, Sink}
 use Rattle.graph_base.specs.declared.line.Parent.{Parent}

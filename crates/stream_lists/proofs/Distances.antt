@@ -5,7 +5,7 @@ use Rattle.std.specs.Prelude.{nat_lt, if◌then◌else◌}
 use Rattle.std.specs.List.{list_any}
 use Rattle.std.proofs.lemmas.Bool.{cases_lt, cases_eq, and_parts, or_parts, not-true, eqb-false}
 use Rattle.std.proofs.lemmas.Bool.Decides.{nat_tests}
-use Rattle.graph_base.specs.phase_base.Lists.{is_distinct}
+use Rattle.phase_base.specs.Lists.{is_distinct}
 
 -- 1 where x is below b, else 0
 abbrev is_below : ℕ → ℕ → ℕ

@@ -11,7 +11,7 @@ use Rattle.graph_base.specs.Graphs.{Graph, Task, task_at, phaser_at}
 use Rattle.graph_base.specs.TaskLines.{IsGraph, IsTaskLine, IsParent, has_children}
 use Rattle.graph_base.specs.declared.line.Kind.{Kind}
 use Rattle.graph_base.specs.declared.line.Kind.TheVariants.{Source, Fir, Split, Decimate, Join, Peer, Sink}
-use Rattle.graph_base.specs.phase_base.declared.operation.Op.TheVariants.{Any}
+use Rattle.phase_base.specs.declared.operation.Op.TheVariants.{Any}
 use Rattle.graph_base.specs.declared.line.Parent.{Parent}
 use Rattle.stream_lists.specs.Jobs.{Job, samples_at, start_at, index_in}
 use Rattle.stream_lists.specs.Spans.{signalled_by, puts_on, offset_of, span_at, spans_of, lengths_of, span_in, end_on, end_of}

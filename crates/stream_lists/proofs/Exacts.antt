@@ -5,14 +5,14 @@ use Rattle.std.specs.List.{range_with_len, filter, list_any, position_from}
 use Rattle.std.proofs.lemmas.Bool.{eq-eqb, eqb-true, and_parts}
 use Rattle.std.proofs.lemmas.List.{get_or-map}
 use Rattle.std.proofs.lemmas.List.FromFn.{length-map-range_with_len, get_or-map-range_with_len}
-use Rattle.graph_base.specs.phase_accum.declared.outcome.Outcome.TheVariants.{Value, Empty, TooBig}
-use Rattle.graph_base.specs.phase_accum.declared.single.Single.{Single}
-use Rattle.graph_base.specs.phase_accum.Values.{applied, ranged, sum_of, product_of, value_max}
+use Rattle.phase_accum.specs.declared.outcome.Outcome.TheVariants.{Value, Empty, TooBig}
+use Rattle.phase_accum.specs.declared.single.Single.{Single}
+use Rattle.phase_accum.specs.Values.{applied, ranged, sum_of, product_of, value_max}
 use Rattle.graph_base.specs.Graphs.{Task, task_at, phaser_at}
 use Rattle.graph_base.specs.TaskLines.{IsGraph, IsTaskLine, HasEnds}
-use Rattle.graph_base.specs.phase_base.Lists.{is_distinct}
-use Rattle.graph_base.specs.phase_base.declared.operation.Op.{Op}
-use Rattle.graph_base.specs.phase_base.declared.operation.Op.TheVariants.{Sum, Product, Least, Greatest, Any}
+use Rattle.phase_base.specs.Lists.{is_distinct}
+use Rattle.phase_base.specs.declared.operation.Op.{Op}
+use Rattle.phase_base.specs.declared.operation.Op.TheVariants.{Sum, Product, Least, Greatest, Any}
 use Rattle.graph_base.specs.declared.line.Kind.{Kind}
 use Rattle.graph_base.specs.declared.line.Kind.TheVariants.{Sink}
 use Rattle.stream_lists.specs.Jobs.{Job, samples_at, start_at, index_in}

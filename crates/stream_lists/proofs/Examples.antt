@@ -1,14 +1,14 @@
 -- Worked graphs, computed in the definitions. Lines of a graph are separated by a slash.
 use Rattle.std.proofs.Common.{◌≡◌, [], ◌∷◌, List, ℕ, ℤ, pos, neg_ℤ, Some, None, Ok, Err, true, map, refl}
-use Rattle.graph_base.specs.phase_accum.declared.single.Single.{Single}
-use Rattle.graph_base.specs.phase_accum.declared.single.Single.TheVariants.{Neg}
-use Rattle.graph_base.specs.phase_base.declared.operation.Op.{Op}
-use Rattle.graph_base.specs.phase_base.declared.operation.Op.TheVariants.{Sum, Any}
+use Rattle.phase_accum.specs.declared.single.Single.{Single}
+use Rattle.phase_accum.specs.declared.single.Single.TheVariants.{Neg}
+use Rattle.phase_base.specs.declared.operation.Op.{Op}
+use Rattle.phase_base.specs.declared.operation.Op.TheVariants.{Sum, Any}
 use Rattle.graph_base.specs.declared.line.Kind.TheVariants.{Source, Fir, Split, Decimate, Join, Peer}
 use Rattle.graph_base.specs.declared.place.Place.TheVariants as place
 use Rattle.graph_base.specs.declared.line.PhaserLine.{PhaserLine}
 use Rattle.graph_base.specs.Graphs.{Task, no_graph, no_task}
-use Rattle.graph_base.specs.stream_filters.Filter.{no_form}
+use Rattle.stream_filters.specs.Filter.{no_form}
 use Rattle.stream_lists.specs.Jobs.{Job}
 use Rattle.stream_lists.specs.Ranges.{answer_of}
 use Rattle.stream_lists.specs.Meetings.{meeting_line}

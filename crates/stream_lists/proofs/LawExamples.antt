@@ -1,7 +1,7 @@
 -- The laws at worked graphs, each beside what is near it and does not hold.
 use Rattle.std.proofs.Common.{◌≡◌, ℕ, ℤ, List, [], ◌∷◌, pos, Some, None, Ok, true, length, map, get_or, refl, arith}
-use Rattle.graph_base.specs.phase_accum.declared.outcome.Outcome.TheVariants.{Value, TooBig}
-use Rattle.graph_base.specs.phase_base.declared.operation.Op.TheVariants.{Sum}
+use Rattle.phase_accum.specs.declared.outcome.Outcome.TheVariants.{Value, TooBig}
+use Rattle.phase_base.specs.declared.operation.Op.TheVariants.{Sum}
 use Rattle.graph_base.specs.Graphs.{task_at}
 use Rattle.graph_base.specs.declared.line.Kind.TheVariants.{Peer}
 use Rattle.stream_lists.specs.Jobs.{Job, samples_at, index_in}

@@ -23,6 +23,3 @@ pub mod OneSend
 pub mod Ordered
 pub mod Starts
 pub mod SameStarts
-pub use Rattle.graph_base.proofs as graph_base_lemmas
-pub use Rattle.graph_base.proofs.phase_accum_lemmas as phase_accum_lemmas
-pub use Rattle.graph_base.proofs.stream_filters_lemmas as stream_filters_lemmas

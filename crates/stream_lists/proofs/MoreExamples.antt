@@ -1,8 +1,8 @@
 -- More worked graphs, computed in the definitions. Lines of a graph are separated by a slash.
 use Rattle.std.proofs.Common.{◌≡◌, [], ◌∷◌, List, ℕ, ℤ, pos, Some, None, Ok, Err, true, false, refl}
-use Rattle.graph_base.specs.phase_accum.declared.single.Single.TheVariants.{Halve, Clamp}
-use Rattle.graph_base.specs.phase_base.declared.operation.Op.{Op}
-use Rattle.graph_base.specs.phase_base.declared.operation.Op.TheVariants.{Sum, Product, Least, Greatest, Any}
+use Rattle.phase_accum.specs.declared.single.Single.TheVariants.{Halve, Clamp}
+use Rattle.phase_base.specs.declared.operation.Op.{Op}
+use Rattle.phase_base.specs.declared.operation.Op.TheVariants.{Sum, Product, Least, Greatest, Any}
 use Rattle.graph_base.specs.declared.place.Place.TheVariants as place
 use Rattle.graph_base.specs.Graphs.{Graph}
 use Rattle.stream_lists.specs.Jobs.{Job, counted, with_starts}

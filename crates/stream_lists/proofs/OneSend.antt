@@ -7,7 +7,7 @@ use Rattle.std.proofs.lemmas.Bool.Decides.{nat_tests}
 use Rattle.std.proofs.lemmas.Option.{slice_get-get_or, slice_get_within}
 use Rattle.graph_base.specs.Graphs.{task_at, phaser_at}
 use Rattle.graph_base.specs.TaskLines.{IsGraph}
-use Rattle.graph_base.specs.phase_base.declared.operation.Op.TheVariants.{Any}
+use Rattle.phase_base.specs.declared.operation.Op.TheVariants.{Any}
 use Rattle.stream_lists.specs.Jobs.{Job, index_in}
 use Rattle.stream_lists.specs.Spans.{signalled_by, span_in, schedule_of}
 use Rattle.stream_lists.specs.Lists.{Contribution, entry, contribution_at, contribution_by, send_in, sends_in, numbers_of}

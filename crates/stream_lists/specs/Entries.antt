@@ -1,8 +1,8 @@
 -- Which tasks have a value in which phase of a phaser's list, which take it, and what has to be in
 -- range: the subject's words, task by task and phase by phase.
 use Rattle.std.specs.Prelude.{◌≡◌, ◌≢◌, ℕ, ℤ, ◌+◌, ◌<◌, ◌≤◌, true, List, length, Some}
-use Rattle.graph_base.specs.phase_accum.Sends.{AreSends}
-use Rattle.graph_base.specs.phase_accum.declared.outcome.Outcome.TheVariants.{TooBig}
+use Rattle.phase_accum.specs.Sends.{AreSends}
+use Rattle.phase_accum.specs.declared.outcome.Outcome.TheVariants.{TooBig}
 use Rattle.graph_base.specs.Graphs.{task_at, phaser_at}
 use Rattle.stream_lists.specs.Jobs.{Job, index_in}
 use Rattle.stream_lists.specs.Spans.{signalled_by, takes_from, span_in, schedule_of}

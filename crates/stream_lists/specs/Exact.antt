@@ -1,11 +1,11 @@
 -- The lists of a graph over whole numbers of any size: composed as in Lists, with no range.
 use Rattle.std.specs.Prelude.{ℕ, ℤ, pos, List, [], ◌∷◌, ◌++◌, length, map, Option, Some, None, get_or}
 use Rattle.std.specs.List.{range_with_len, fold}
-use Rattle.graph_base.specs.phase_accum.Values.{sum_of, product_of, least_of, greatest_of, single_of}
-use Rattle.graph_base.specs.phase_accum.declared.single.Single.{Single}
+use Rattle.phase_accum.specs.Values.{sum_of, product_of, least_of, greatest_of, single_of}
+use Rattle.phase_accum.specs.declared.single.Single.{Single}
 use Rattle.graph_base.specs.Graphs.{phaser_at}
-use Rattle.graph_base.specs.phase_base.declared.operation.Op.{Op}
-use Rattle.graph_base.specs.phase_base.declared.operation.Op.TheVariants.{Sum, Product, Least, Greatest, Any}
+use Rattle.phase_base.specs.declared.operation.Op.{Op}
+use Rattle.phase_base.specs.declared.operation.Op.TheVariants.{Sum, Product, Least, Greatest, Any}
 use Rattle.stream_lists.specs.Jobs.{Job}
 use Rattle.stream_lists.specs.Lists.{Contribution, contributions_on, sends_in, sink_over, sinks_of}
 use Rattle.stream_lists.specs.Spans.{Schedule, schedule_of}

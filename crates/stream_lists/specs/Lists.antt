@@ -2,11 +2,11 @@
 -- phaser's phases.
 use Rattle.std.specs.Prelude.{ℕ, ◌+◌, ◌-◌, ◌*◌, ◌/◌, ◌%◌, ◌&&◌, Bool, List, [], ◌∷◌, ◌++◌, length, map, take, drop, Option, Some, None, ℤ, pos, ◌*ℤ◌, ◌-ℤ◌, get_or, nat_lt, if◌then◌else◌, slice_get}
 use Rattle.std.specs.List.{range_with_len, filter_map, filter, fold}
-use Rattle.graph_base.specs.phase_accum.declared.outcome.Outcome.{Outcome}
-use Rattle.graph_base.specs.phase_accum.declared.outcome.Outcome.TheVariants.{Value, Empty, TooBig}
-use Rattle.graph_base.specs.phase_accum.Values.{applied}
-pub use Rattle.graph_base.specs.phase_accum.Values.{value_by}
-use Rattle.graph_base.specs.stream_filters.Filter.{outputs}
+use Rattle.phase_accum.specs.declared.outcome.Outcome.{Outcome}
+use Rattle.phase_accum.specs.declared.outcome.Outcome.TheVariants.{Value, Empty, TooBig}
+use Rattle.phase_accum.specs.Values.{applied}
+pub use Rattle.phase_accum.specs.Values.{value_by}
+use Rattle.stream_filters.specs.Filter.{outputs}
 use Rattle.graph_base.specs.Graphs.{Task, task_at, phaser_at, is_sink}
 use Rattle.stream_lists.specs.Jobs.{Job, samples_at, index_in}
 use Rattle.stream_lists.specs.Spans.{nowhere, span_in, turns_below, signalled_by, takes_from, Schedule, schedule_of}

@@ -8,8 +8,8 @@ use Rattle.stream_lists.specs.Ranges.{first_some}
 use Rattle.stream_lists.specs.Spans.{nowhere, end_of, spans_of}
 use Rattle.stream_lists.specs.declared.meeting.Meeting.{Meeting}
 use Rattle.stream_lists.specs.declared.span.Span.{Span}
-use Rattle.graph_base.specs.phase_base.declared.operation.Op.{Op}
-use Rattle.graph_base.specs.phase_base.declared.operation.Op.TheVariants.{Sum, Product, Least, Greatest, Any}
+use Rattle.phase_base.specs.declared.operation.Op.{Op}
+use Rattle.phase_base.specs.declared.operation.Op.TheVariants.{Sum, Product, Least, Greatest, Any}
 
 -- whether the operation is `any`
 abbrev pub is_any : Op → Bool

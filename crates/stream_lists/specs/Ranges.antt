@@ -2,9 +2,9 @@
 use Rattle.std.specs.Prelude.{◌≡◌, ℕ, ◌+◌, ◌&&◌, Bool, true, false, List, [], ◌∷◌, ◌++◌, length, map, Option, Some, None, ℤ, get_or, nat_lt, nat_le, not, if◌then◌else◌, unsigned_abs, Result, Ok, Err}
 use Rattle.std.specs.Option.{option_map}
 use Rattle.std.specs.List.{range_with_len, list_any, find, position_from}
-use Rattle.graph_base.specs.phase_accum.declared.outcome.Outcome.{Outcome}
-use Rattle.graph_base.specs.phase_accum.declared.outcome.Outcome.TheVariants.{Value, Empty, TooBig}
-use Rattle.graph_base.specs.phase_accum.Sends.{value_max}
+use Rattle.phase_accum.specs.declared.outcome.Outcome.{Outcome}
+use Rattle.phase_accum.specs.declared.outcome.Outcome.TheVariants.{Value, Empty, TooBig}
+use Rattle.phase_accum.specs.Sends.{value_max}
 use Rattle.graph_base.specs.Graphs.{Task, task_at, phaser_at}
 use Rattle.stream_lists.specs.Jobs.{Job, index_in}
 use Rattle.stream_lists.specs.Spans.{nowhere, signalled_by, takes_from, Schedule, schedule_of}

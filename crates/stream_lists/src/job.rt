@@ -1,7 +1,7 @@
 //! A graph with the samples of its sources.
 ghost use Rattle.std.specs.Prelude.{◌≡◌, ◌<◌, ◌≤◌, ℕ, [], length, get_or, Some, None, IfOk, Err};
 ghost use Rattle.std.specs.List.{All};
-ghost use Rattle.graph_base.specs.phase_accum.Sends.{AreSends};
+ghost use Rattle.phase_accum.specs.Sends.{AreSends};
 ghost use Rattle.graph_base.specs.Graphs.{phaser_at, task_at, sources_of};
 ghost use Rattle.graph_base.specs.GraphFields.{task_of};
 ghost use Rattle.graph_base.specs.TaskLines.{IsTaskLine};

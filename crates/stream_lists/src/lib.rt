@@ -25,8 +25,6 @@ mod stand;
 mod task_spans;
 
 pub use counts::taken_count;
-pub use graph_base;
-pub use graph_base::{phase_accum, stream_filters};
 pub use job::{Job, SAMPLES_MAX};
 pub use meeting::Meeting;
 pub use meetings::{meeting_on, meeting_with};

@@ -1,10 +1,10 @@
 //! The laws. The contract of each function is the law.
 ghost use Rattle.std.specs.Prelude.{◌≡◌, ◌+◌, ◌-◌, ◌<◌, ◌≤◌, ◌↔◌, ℕ, ℤ, List, [], ◌∷◌, length, map, get_or, Some, None, Bool, true, false, nat_le, ◌&&◌, if◌then◌else◌};
-ghost use Rattle.graph_base.specs.phase_accum.declared.outcome.Outcome.TheVariants.{Empty};
+ghost use Rattle.phase_accum.specs.declared.outcome.Outcome.TheVariants.{Empty};
 ghost use Rattle.graph_base.specs.Graphs.{Graph, Task, phaser_at, task_at};
 ghost use Rattle.graph_base.specs.declared.line.Kind.TheVariants.{Source};
 ghost use Rattle.graph_base.specs.declared.line.Parent.{Parent};
-ghost use Rattle.graph_base.specs.phase_base.declared.operation.Op.TheVariants.{Any};
+ghost use Rattle.phase_base.specs.declared.operation.Op.TheVariants.{Any};
 ghost use Rattle.graph_base.specs.TaskLines.{HasEnds, IsGraph};
 ghost use Rattle.stream_lists.specs.Entries.{AreInRange, HasEntry, output_values, sends_at, Takes};
 ghost use Rattle.stream_lists.specs.Exact.{exact_lines, exact_lists};

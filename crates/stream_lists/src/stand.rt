@@ -2,7 +2,7 @@
 ghost use Rattle.std.specs.Prelude.{◌≡◌};
 ghost use Rattle.stream_lists.specs.Stands.{call_on};
 
-use graph_base::phase_accum::phase_base::Entry;
+use phase_base::Entry;
 
 /// Where a task stands on a phaser, as it is told of a run that stalled.
 #[derive(Clone, Copy, Debug, PartialEq, Eq)]

@@ -1,9 +1,9 @@
 -- What a registration and its member tell of each other.
 use Rattle.std.proofs.Common.{◌≡◌, Some, [], ◌∷◌, ap, refl, sym, subst}
-use Rattle.phase_shared.specs.phase_base.Members.{entry_of}
-use Rattle.phase_shared.specs.phase_history.Histories.{members_of}
-use Rattle.phase_shared.specs.phase_history.Legal.{IsLegal}
-use Rattle.phase_shared.specs.phase_history.Others.{OnlyUsed}
+use Rattle.phase_base.specs.Members.{entry_of}
+use Rattle.phase_history.specs.Histories.{members_of}
+use Rattle.phase_history.specs.Legal.{IsLegal}
+use Rattle.phase_history.specs.Others.{OnlyUsed}
 use Rattle.phase_shared.specs.declared.rule.NoRule.{NoRule}
 use Rattle.phase_shared.specs.declared.phaser.Phaser.{Phaser}
 use Rattle.phase_shared.specs.Rule.{Allows}

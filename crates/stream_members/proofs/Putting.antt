@@ -1,9 +1,9 @@
 -- Signals with one value a phase.
 use Rattle.std.proofs.Common.{◌≡◌, ℕ, ℤ, List, Option, sym, ap, subst}
 use Rattle.std.specs.Prelude.{Result, Ok, Err}
-use Rattle.phase_shared.specs.phase_base.Limits.{Limits}
-use Rattle.phase_shared.specs.phase_accum.declared.single.Single.{Single}
-use Rattle.phase_shared.specs.phase_history.declared.refusal.SignalRefusal.{SignalRefusal}
+use Rattle.phase_base.specs.Limits.{Limits}
+use Rattle.phase_accum.specs.declared.single.Single.{Single}
+use Rattle.phase_history.specs.declared.refusal.SignalRefusal.{SignalRefusal}
 use Rattle.phase_shared.specs.declared.phaser.Phaser.{Phaser}
 use Rattle.phase_shared.specs.declared.rule.NoRule.{NoRule}
 use Rattle.phase_shared.specs.declared.tried.Tried.{Tried}

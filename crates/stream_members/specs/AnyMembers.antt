@@ -1,9 +1,9 @@
 -- A member under one of the five operations, as contracts see it.
 use Rattle.std.specs.Prelude.{◌≡◌, ℕ, length, Result, Ok, Err}
-use Rattle.phase_shared.specs.phase_base.declared.mode.Mode.{Mode}
-use Rattle.phase_shared.specs.phase_base.declared.operation.Op.{Op}
-use Rattle.phase_shared.specs.phase_base.declared.operation.Op.TheVariants.{Sum, Product, Least, Greatest, Any}
-use Rattle.phase_shared.specs.phase_history.declared.refusal.RegisterRefusal.{RegisterRefusal}
+use Rattle.phase_base.specs.declared.mode.Mode.{Mode}
+use Rattle.phase_base.specs.declared.operation.Op.{Op}
+use Rattle.phase_base.specs.declared.operation.Op.TheVariants.{Sum, Product, Least, Greatest, Any}
+use Rattle.phase_history.specs.declared.refusal.RegisterRefusal.{RegisterRefusal}
 use Rattle.stream_members.specs.Members.{MemberState, LeftState, Adds, AddsNow}
 use Rattle.stream_members.specs.declared.any_member.AnyMember.{AnyMember}
 use Rattle.stream_members.specs.declared.any_member.AnyMember.TheVariants as member

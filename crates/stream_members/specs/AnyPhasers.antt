@@ -1,10 +1,10 @@
 -- A phaser under one of the five operations and the registration of its founder, as contracts see
 -- them.
 use Rattle.std.specs.Prelude.{◌≡◌, ℕ, [], ◌∷◌}
-use Rattle.phase_shared.specs.phase_base.declared.mode.Mode.TheVariants.{Single}
-use Rattle.phase_shared.specs.phase_base.declared.operation.Op.{Op}
-use Rattle.phase_shared.specs.phase_base.declared.operation.Op.TheVariants.{Sum, Product, Least, Greatest, Any}
-use Rattle.phase_shared.specs.phase_history.declared.event.Event.TheVariants.{Made}
+use Rattle.phase_base.specs.declared.mode.Mode.TheVariants.{Single}
+use Rattle.phase_base.specs.declared.operation.Op.{Op}
+use Rattle.phase_base.specs.declared.operation.Op.TheVariants.{Sum, Product, Least, Greatest, Any}
+use Rattle.phase_history.specs.declared.event.Event.TheVariants.{Made}
 use Rattle.phase_shared.specs.Regs.{phaser_lock}
 use Rattle.stream_members.specs.Members.{Spot, MemberState, member_state}
 use Rattle.stream_members.specs.declared.any_phaser.AnyPhaser.{AnyPhaser}

@@ -1,21 +1,21 @@
 -- What contracts see of a registration with its phaser, and what its calls do to the history that
 -- it has seen.
 use Rattle.std.specs.Prelude.{◌≡◌, ℕ, ◌+◌, ℤ, List, [], ◌∷◌, ◌++◌, Option, Some, None, Result, Ok, Err, true}
-use Rattle.phase_shared.specs.turn_lock.Seats.{Place}
-use Rattle.phase_shared.specs.phase_base.Limits.{Limits, limits}
-use Rattle.phase_shared.specs.phase_base.Members.{entry_of}
-use Rattle.phase_shared.specs.phase_base.declared.entry.Entry.{Entry}
-use Rattle.phase_shared.specs.phase_base.declared.mode.Mode.{Mode}
-use Rattle.phase_shared.specs.phase_base.declared.mode.Mode.TheVariants.{Wait}
-use Rattle.phase_shared.specs.phase_accum.declared.single.Single.{Single}
-use Rattle.phase_shared.specs.phase_history.declared.refusal.RegisterRefusal.{RegisterRefusal}
-use Rattle.phase_shared.specs.phase_history.declared.event.Event.TheVariants.{RegisteredNow}
-use Rattle.phase_shared.specs.phase_history.Histories.{History, members_of, greatest_used, done_of}
-use Rattle.phase_shared.specs.phase_history.declared.refusal.SignalRefusal.{SignalRefusal}
-use Rattle.phase_shared.specs.phase_history.Refusals.{register_now_refusal}
-use Rattle.phase_shared.specs.phase_history.Legal.{IsLegal}
-use Rattle.phase_shared.specs.phase_history.Others.{OthersCame, OnlyUsed}
-use Rattle.phase_shared.specs.phase_base.Lists.{is_distinct}
+use Rattle.turn_lock.specs.Seats.{Place}
+use Rattle.phase_base.specs.Limits.{Limits, limits}
+use Rattle.phase_base.specs.Members.{entry_of}
+use Rattle.phase_base.specs.declared.entry.Entry.{Entry}
+use Rattle.phase_base.specs.declared.mode.Mode.{Mode}
+use Rattle.phase_base.specs.declared.mode.Mode.TheVariants.{Wait}
+use Rattle.phase_accum.specs.declared.single.Single.{Single}
+use Rattle.phase_history.specs.declared.refusal.RegisterRefusal.{RegisterRefusal}
+use Rattle.phase_history.specs.declared.event.Event.TheVariants.{RegisteredNow}
+use Rattle.phase_history.specs.Histories.{History, members_of, greatest_used, done_of}
+use Rattle.phase_history.specs.declared.refusal.SignalRefusal.{SignalRefusal}
+use Rattle.phase_history.specs.Refusals.{register_now_refusal}
+use Rattle.phase_history.specs.Legal.{IsLegal}
+use Rattle.phase_history.specs.Others.{OthersCame, OnlyUsed}
+use Rattle.phase_base.specs.Lists.{is_distinct}
 use Rattle.phase_shared.specs.declared.rule.Terms.{Terms}
 use Rattle.phase_shared.specs.declared.tried.Tried.{Tried}
 use Rattle.phase_shared.specs.declared.tried.Tried.TheVariants as tried

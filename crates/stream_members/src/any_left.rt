@@ -1,12 +1,12 @@
 //! What members that left have seen, under one of the operations.
 ghost use Rattle.std.specs.Prelude.{◌≡◌, true};
-ghost use Rattle.phase_shared.specs.phase_history.Legal.{IsLegal};
-ghost use Rattle.phase_shared.specs.phase_base.Lists.{is_distinct};
+ghost use Rattle.phase_history.specs.Legal.{IsLegal};
+ghost use Rattle.phase_base.specs.Lists.{is_distinct};
 ghost use Rattle.stream_members.specs.Members.{limits_on, HasJoined};
 ghost use Rattle.stream_members.specs.AnyMembers.{left_in, left_op};
 
 use crate::left::Left;
-use phase_shared::phase_accum::{Any, Greatest, Least, Product, Sum};
+use phase_accum::{Any, Greatest, Least, Product, Sum};
 
 /// What members that left have seen, by the operation of their phaser. It may be thrown away.
 #[derive(Drop)]

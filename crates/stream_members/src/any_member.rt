@@ -1,9 +1,9 @@
 //! A member under one of the operations.
 ghost use Rattle.std.specs.Prelude.{◌≡◌, ◌≢◌, ◌↔◌, ◌<◌, ◌≤◌, [], ◌∷◌, Some, Err, IfOk, IfErr, IsOk, length};
-ghost use Rattle.phase_shared.specs.phase_accum.Sends.{AreSends, IsSend};
-ghost use Rattle.phase_shared.specs.phase_base.Members.{entry_of};
-ghost use Rattle.phase_shared.specs.phase_history.Histories.{members_of};
-ghost use Rattle.phase_shared.specs.phase_accum.Values.{value_by};
+ghost use Rattle.phase_accum.specs.Sends.{AreSends, IsSend};
+ghost use Rattle.phase_base.specs.Members.{entry_of};
+ghost use Rattle.phase_history.specs.Histories.{members_of};
+ghost use Rattle.phase_accum.specs.Values.{value_by};
 ghost use Rattle.phase_shared.specs.Blocks.{WaitsBlock};
 ghost use Rattle.phase_shared.specs.Calls.{Tries};
 ghost use Rattle.stream_members.specs.Members.{limits_on, IsMember, Stays, IsAlone, Puts, HasLeftPhaser};
@@ -13,10 +13,10 @@ use crate::any_left::AnyLeft;
 use crate::member::Member;
 use crate::places::Places;
 use crate::refusal::PutRefusal;
+use phase_accum::{Any, Greatest, Least, Outcome, Pending, Product, Single, Sum};
+use phase_base::{Entry, Mode, Op};
+use phase_core::{GotBlock, RegisterRefusal, SignalRefusal, WaitRefusal};
 use phase_shared::Tried;
-use phase_shared::phase_accum::{Any, Greatest, Least, Outcome, Pending, Product, Single, Sum};
-use phase_shared::phase_base::{Entry, Mode, Op};
-use phase_shared::phase_core::{GotBlock, RegisterRefusal, SignalRefusal, WaitRefusal};
 use std::sync::Wait;
 
 /// A member, by the operation of its phaser. Each call is the one of `Member` of the same name, and

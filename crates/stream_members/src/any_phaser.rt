@@ -6,8 +6,8 @@ ghost use Rattle.stream_members.specs.AnyPhasers.{phaser_op, phaser_spot, founde
 
 use crate::any_member::AnyMember;
 use crate::member::Member;
-use phase_shared::phase_accum::{Any, Greatest, Least, Product, Sum};
-use phase_shared::phase_base::{Op, Spec};
+use phase_accum::{Any, Greatest, Least, Product, Sum};
+use phase_base::{Op, Spec};
 use phase_shared::{NoRule, Phaser, Reg};
 use std::alloc::{AllocError, Global};
 

@@ -1,10 +1,10 @@
 //! What members that left have seen.
 ghost use Rattle.std.specs.Prelude.{◌≡◌, true};
-ghost use Rattle.phase_shared.specs.phase_history.Legal.{IsLegal};
-ghost use Rattle.phase_shared.specs.phase_base.Lists.{is_distinct};
+ghost use Rattle.phase_history.specs.Legal.{IsLegal};
+ghost use Rattle.phase_base.specs.Lists.{is_distinct};
 ghost use Rattle.stream_members.specs.Members.{limits_on, HasJoined};
 
-use phase_shared::phase_accum::Accumulate;
+use phase_accum::Accumulate;
 use phase_shared::{NoRule, Past, Phaser};
 use std::marker::Model;
 

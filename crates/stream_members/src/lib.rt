@@ -35,7 +35,5 @@ pub use any_member::AnyMember;
 pub use any_phaser::{AnyPhaser, AnyReg};
 pub use left::Left;
 pub use member::Member;
-pub use phase_shared;
-pub use phase_shared::phase_core;
 pub use places::Places;
 pub use refusal::PutRefusal;

@@ -1,8 +1,8 @@
 //! A registration with its phaser, which puts one value a phase.
 ghost use Rattle.std.specs.Prelude.{◌≡◌, ◌≢◌, ◌↔◌, ◌<◌, ◌≤◌, [], ◌∷◌, Some, Err, IfOk, IfErr, IsOk, length};
-ghost use Rattle.phase_shared.specs.phase_accum.Sends.{AreSends};
-ghost use Rattle.phase_shared.specs.phase_base.Members.{entry_of};
-ghost use Rattle.phase_shared.specs.phase_history.Histories.{members_of};
+ghost use Rattle.phase_accum.specs.Sends.{AreSends};
+ghost use Rattle.phase_base.specs.Members.{entry_of};
+ghost use Rattle.phase_history.specs.Histories.{members_of};
 ghost use Rattle.phase_shared.specs.Blocks.{WaitsBlock};
 ghost use Rattle.phase_shared.specs.Calls.{Tries};
 ghost use Rattle.phase_shared.specs.Regs.{phaser_lock};
@@ -10,9 +10,9 @@ ghost use Rattle.stream_members.specs.Members.{limits_on, member_state, IsMember
 
 use crate::left::Left;
 use crate::refusal::PutRefusal;
-use phase_shared::phase_accum::{Accumulate, Outcome, Pending, Single};
-use phase_shared::phase_base::{Entry, Mode};
-use phase_shared::phase_core::{GotBlock, RegisterRefusal, SignalRefusal, WaitRefusal, are_sends};
+use phase_accum::{Accumulate, Outcome, Pending, Single};
+use phase_base::{Entry, Mode};
+use phase_core::{GotBlock, RegisterRefusal, SignalRefusal, WaitRefusal, are_sends};
 use phase_shared::{NoRule, Phaser, Reg, Tried};
 use std::marker::Model;
 use std::sync::Wait;

@@ -2,8 +2,8 @@
 ghost use Rattle.std.specs.Prelude.{◌≡◌, IfOk};
 ghost use Rattle.stream_members.specs.AnyMembers.{room_for};
 
-use phase_shared::phase_accum::{Any, Greatest, Least, Pending, Product, Sum};
-use phase_shared::phase_base::Op;
+use phase_accum::{Any, Greatest, Least, Pending, Product, Sum};
+use phase_base::Op;
 use std::alloc::{AllocError, Global};
 
 /// Places for the sends of a block of phases under one of the operations, which a signal of several

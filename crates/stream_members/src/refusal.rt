@@ -1,5 +1,5 @@
 //! Why values were not put.
-use phase_shared::phase_core::SignalRefusal;
+use phase_core::SignalRefusal;
 
 /// Why values were not put. The variants stand in the order in which they are checked.
 #[derive(Clone, Copy, Debug, PartialEq, Eq)]

@@ -7,11 +7,11 @@ use Rattle.std.specs.Vec.{with_item}
 use Rattle.std.proofs.lemmas.Bool.{cases_lt}
 use Rattle.std.proofs.lemmas.List.{length-append, get_or-append_right, get_or_append_left, get_or-set_same, get_or-set_other, length-set}
 use Rattle.std.proofs.lemmas.Option.{slice_get-get_or, slice_get_past, same_Some}
-use Rattle.graph_runs.specs.phase_history.declared.event.Event.{Event}
-use Rattle.graph_runs.specs.phase_history.Histories.{History}
-use Rattle.graph_runs.specs.graph_base.Graphs.{task_at}
-use Rattle.graph_runs.specs.graph_base.TaskLines.{IsGraph}
-use Rattle.stream_eval.specs.stream_lists.Jobs.{Job}
+use Rattle.phase_history.specs.declared.event.Event.{Event}
+use Rattle.phase_history.specs.Histories.{History}
+use Rattle.graph_base.specs.Graphs.{task_at}
+use Rattle.graph_base.specs.TaskLines.{IsGraph}
+use Rattle.stream_lists.specs.Jobs.{Job}
 use Rattle.graph_runs.specs.Moments.{Moment}
 use Rattle.graph_runs.proofs.Whole.{parent_of}
 use Rattle.graph_runs.specs.Moves.{SameTask}

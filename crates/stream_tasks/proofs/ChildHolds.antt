@@ -5,9 +5,9 @@ use Rattle.std.specs.Vec.{with_item}
 use Rattle.std.proofs.lemmas.Bool.{cases_lt}
 use Rattle.std.proofs.lemmas.List.{get_or-set_same, get_or-set_other}
 use Rattle.std.proofs.lemmas.Option.{slice_get-get_or, slice_get_past, slice_get_within}
-use Rattle.graph_runs.specs.graph_base.Graphs.{task_at}
-use Rattle.graph_runs.specs.graph_base.TaskLines.{IsGraph}
-use Rattle.stream_eval.specs.stream_lists.Jobs.{Job}
+use Rattle.graph_base.specs.Graphs.{task_at}
+use Rattle.graph_base.specs.TaskLines.{IsGraph}
+use Rattle.stream_lists.specs.Jobs.{Job}
 use Rattle.graph_runs.specs.Moments.{Moment}
 use Rattle.graph_runs.proofs.Whole.{parent_of}
 use Rattle.stream_members.specs.Members.{Spot}

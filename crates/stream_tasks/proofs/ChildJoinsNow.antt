@@ -4,10 +4,10 @@ use Rattle.std.specs.Prelude.{Vec}
 use Rattle.std.specs.Global.{Global}
 use Rattle.std.specs.Vec.{with_item}
 use Rattle.std.proofs.lemmas.Option.{slice_get_past}
-use Rattle.graph_runs.specs.phase_history.declared.event.Event.TheVariants.{RegisteredNow}
-use Rattle.graph_runs.specs.phase_history.Histories.{done_of}
-use Rattle.graph_runs.specs.graph_base.Graphs.{task_at}
-use Rattle.stream_eval.specs.stream_lists.Jobs.{Job}
+use Rattle.phase_history.specs.declared.event.Event.TheVariants.{RegisteredNow}
+use Rattle.phase_history.specs.Histories.{done_of}
+use Rattle.graph_base.specs.Graphs.{task_at}
+use Rattle.stream_lists.specs.Jobs.{Job}
 use Rattle.graph_runs.specs.Moments.{Moment}
 use Rattle.graph_runs.specs.Turned.{after_register_now}
 use Rattle.stream_members.specs.Members.{Spot}

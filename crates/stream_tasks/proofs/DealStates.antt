@@ -5,15 +5,15 @@ use Rattle.std.specs.List.{All}
 use Rattle.std.specs.Vec.{with_item}
 use Rattle.std.specs.Prelude.{Bool, Vec}
 use Rattle.std.proofs.lemmas.List.{length-map}
-use Rattle.graph_runs.specs.phase_accum.declared.outcome.Outcome.{Outcome}
-use Rattle.graph_runs.specs.phase_history.declared.event.Event.TheVariants.{Waited}
-use Rattle.graph_runs.specs.phase_history.Histories.{History}
+use Rattle.phase_accum.specs.declared.outcome.Outcome.{Outcome}
+use Rattle.phase_history.specs.declared.event.Event.TheVariants.{Waited}
+use Rattle.phase_history.specs.Histories.{History}
 use Rattle.graph_runs.specs.declared.owed.Owed.TheVariants.{Nothing}
-use Rattle.graph_runs.specs.graph_base.declared.line.Kind.TheVariants as kind
-use Rattle.graph_runs.specs.graph_base.Graphs.{task_at, phaser_at}
-use Rattle.stream_eval.specs.stream_lists.Jobs.{Job}
-use Rattle.stream_eval.specs.stream_lists.Lists.{every, number}
-use Rattle.stream_eval.specs.stream_lists.Ranges.{is_too_big}
+use Rattle.graph_base.specs.declared.line.Kind.TheVariants as kind
+use Rattle.graph_base.specs.Graphs.{task_at, phaser_at}
+use Rattle.stream_lists.specs.Jobs.{Job}
+use Rattle.stream_lists.specs.Lists.{every, number}
+use Rattle.stream_lists.specs.Ranges.{is_too_big}
 use Rattle.graph_runs.specs.Moments.{Moment, input_at}
 use Rattle.stream_members.specs.Members.{Spot}
 use Rattle.stream_members.specs.AnyMembers.{member_in, room_for}

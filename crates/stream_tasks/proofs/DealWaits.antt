@@ -4,19 +4,19 @@ use Rattle.std.proofs.Common.{◌≡◌, ◌≢◌, ℕ, ◌+◌, ◌<◌, ◌�
 use mathlib.Core.List.{IsPrefix}
 use Rattle.std.proofs.lemmas.List.{length-append, length-map, map-append}
 use Rattle.std.proofs.lemmas.Option.{same_Some}
-use Rattle.graph_runs.specs.phase_accum.declared.outcome.Outcome.{Outcome}
-use Rattle.graph_runs.specs.phase_history.declared.event.Event.{Event}
-use Rattle.graph_runs.specs.phase_history.declared.event.Event.TheVariants.{Waited}
-use Rattle.graph_runs.specs.phase_history.Histories.{History, has_dropped}
-use Rattle.graph_runs.specs.phase_history.Legal.{IsAccepted, IsLegal}
-use Rattle.graph_runs.specs.phase_history.Phases.{received_by}
-use Rattle.graph_runs.specs.phase_history.Sent.{sent_by, IsSilent}
-use Rattle.graph_runs.specs.graph_base.TaskLines.{IsGraph, IsTaskLine}
-use Rattle.graph_runs.specs.graph_base.Graphs.{task_at}
-use Rattle.graph_runs.specs.graph_base.declared.line.Parent.{Parent}
-use Rattle.stream_eval.specs.stream_lists.Jobs.{Job, samples_at}
-use Rattle.stream_eval.specs.stream_lists.Lists.{number}
-use Rattle.stream_eval.specs.stream_lists.Spans.{takes_from}
+use Rattle.phase_accum.specs.declared.outcome.Outcome.{Outcome}
+use Rattle.phase_history.specs.declared.event.Event.{Event}
+use Rattle.phase_history.specs.declared.event.Event.TheVariants.{Waited}
+use Rattle.phase_history.specs.Histories.{History, has_dropped}
+use Rattle.phase_history.specs.Legal.{IsAccepted, IsLegal}
+use Rattle.phase_history.specs.Phases.{received_by}
+use Rattle.phase_history.specs.Sent.{sent_by, IsSilent}
+use Rattle.graph_base.specs.TaskLines.{IsGraph, IsTaskLine}
+use Rattle.graph_base.specs.Graphs.{task_at}
+use Rattle.graph_base.specs.declared.line.Parent.{Parent}
+use Rattle.stream_lists.specs.Jobs.{Job, samples_at}
+use Rattle.stream_lists.specs.Lists.{number}
+use Rattle.stream_lists.specs.Spans.{takes_from}
 use Rattle.graph_runs.specs.Moments.{AtMost, HasEnded, HasNotPassed, HasTaken, Moment, OnLine, TaskRan, input_at, limits_at, one, value_at}
 use Rattle.graph_runs.specs.Moves.{HasMoved, IsStaying, MayBeginTo}
 use Rattle.graph_runs.specs.Turned.{after_waits, with_at}

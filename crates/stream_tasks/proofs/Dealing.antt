@@ -7,14 +7,14 @@ use Rattle.std.proofs.lemmas.Bool.{cases_lt, le-ltb, lt-ltb}
 use Rattle.std.proofs.lemmas.List.{length-append, length-map}
 use Rattle.std.proofs.lemmas.Nat.{mod_below}
 use Rattle.std.proofs.lemmas.Option.{slice_get-get_or}
-use Rattle.graph_runs.specs.phase_accum.declared.outcome.Outcome.{Outcome}
-use Rattle.graph_runs.specs.phase_history.Histories.{History, has_dropped}
-use Rattle.graph_runs.specs.graph_base.TaskLines.{IsGraph}
-use Rattle.graph_runs.specs.graph_base.Graphs.{Task, task_at}
-use Rattle.graph_runs.specs.graph_base.declared.line.Kind.TheVariants.{Source, Split}
-use Rattle.stream_eval.specs.stream_lists.Jobs.{Job}
-use Rattle.stream_eval.specs.stream_lists.Lists.{every, number}
-use Rattle.stream_eval.specs.stream_lists.Spans.{puts_on, signalled_by, turns_below}
+use Rattle.phase_accum.specs.declared.outcome.Outcome.{Outcome}
+use Rattle.phase_history.specs.Histories.{History, has_dropped}
+use Rattle.graph_base.specs.TaskLines.{IsGraph}
+use Rattle.graph_base.specs.Graphs.{Task, task_at}
+use Rattle.graph_base.specs.declared.line.Kind.TheVariants.{Source, Split}
+use Rattle.stream_lists.specs.Jobs.{Job}
+use Rattle.stream_lists.specs.Lists.{every, number}
+use Rattle.stream_lists.specs.Spans.{puts_on, signalled_by, turns_below}
 use Rattle.graph_runs.specs.Answers.{output_at}
 use Rattle.graph_runs.specs.Moments.{Moment, made_now, taken_now}
 use Rattle.graph_runs.specs.Nexts.{has_left, number_on, registrations_at}

@@ -5,16 +5,16 @@ use Rattle.std.specs.List.{range_with_len}
 use mathlib.Core.List.{IsPrefix}
 use Rattle.std.proofs.Math.Seq.{drop-append_seam}
 use Rattle.std.proofs.lemmas.List.{length-append, length-map}
-use Rattle.stream_eval.specs.stream_filters.Range.{ranged}
-use Rattle.graph_runs.specs.phase_accum.declared.outcome.Outcome.{Outcome}
-use Rattle.graph_runs.specs.phase_history.Histories.{History}
-use Rattle.graph_runs.specs.graph_base.TaskLines.{IsGraph}
-use Rattle.graph_runs.specs.graph_base.Graphs.{task_at}
-use Rattle.graph_runs.specs.graph_base.declared.line.Kind.TheVariants.{Decimate, Source}
-use Rattle.stream_eval.specs.stream_lists.Jobs.{Job}
-use Rattle.stream_eval.specs.stream_lists.Lists.{entry, every, number}
-use Rattle.stream_eval.specs.stream_lists.Ranges.{is_out_of_range}
-use Rattle.stream_eval.specs.stream_lists.Spans.{signalled_by, turns_below}
+use Rattle.stream_filters.specs.Range.{ranged}
+use Rattle.phase_accum.specs.declared.outcome.Outcome.{Outcome}
+use Rattle.phase_history.specs.Histories.{History}
+use Rattle.graph_base.specs.TaskLines.{IsGraph}
+use Rattle.graph_base.specs.Graphs.{task_at}
+use Rattle.graph_base.specs.declared.line.Kind.TheVariants.{Decimate, Source}
+use Rattle.stream_lists.specs.Jobs.{Job}
+use Rattle.stream_lists.specs.Lists.{entry, every, number}
+use Rattle.stream_lists.specs.Ranges.{is_out_of_range}
+use Rattle.stream_lists.specs.Spans.{signalled_by, turns_below}
 use Rattle.graph_runs.specs.Moments.{Moment, input_at, made_now, taken_now}
 use Rattle.graph_runs.specs.Nexts.{exchanges, signals, waits_first}
 use Rattle.graph_runs.specs.Parts.{HasGot, HasPart}

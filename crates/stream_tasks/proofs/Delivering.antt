@@ -2,9 +2,9 @@
 use Rattle.std.proofs.Common.{◌≡◌, ℕ, ◌<◌, ◌≤◌, true, ◌++◌, length, refl, sym, ap, subst, ◌∙◌, arith}
 use Rattle.std.proofs.lemmas.Option.{same_Some}
 use Rattle.std.proofs.lemmas.List.{nil_from_length}
-use Rattle.stream_eval.specs.stream_lists.Jobs.{Job}
+use Rattle.stream_lists.specs.Jobs.{Job}
 use Rattle.stream_members.specs.Members.{Spot}
-use Rattle.graph_runs.specs.graph_base.Graphs.{task_at}
+use Rattle.graph_base.specs.Graphs.{task_at}
 use Rattle.graph_runs.specs.Nexts.{registrations_at}
 use Rattle.graph_runs.proofs.ChildMoments.{has_registration}
 use Rattle.graph_runs.specs.TaskEnds.{IsChildOf}

@@ -3,13 +3,13 @@ use Rattle.std.proofs.Common.{◌≡◌, ℕ, zero, suc, ◌+◌, ◌<◌, ◌�
 use Rattle.std.specs.List.{All, filter, range_with_len}
 use Rattle.std.specs.Prelude.{slice_index_or}
 use Rattle.std.proofs.lemmas.Option.{slice_get-get_or}
-use Rattle.graph_runs.specs.phase_history.Histories.{History}
-use Rattle.graph_runs.specs.phase_base.Lists.{is_in}
-use Rattle.graph_runs.specs.graph_base.Graphs.{task_at}
+use Rattle.phase_history.specs.Histories.{History}
+use Rattle.phase_base.specs.Lists.{is_in}
+use Rattle.graph_base.specs.Graphs.{task_at}
 use Rattle.stream_eval.specs.Results.{sink_values}
 use Rattle.stream_eval.specs.declared.whole.Lines.{Lines}
-use Rattle.stream_eval.specs.stream_lists.Jobs.{Job, with_starts}
-use Rattle.stream_eval.specs.stream_lists.Lists.{sinks_of, is_sink_at, start_in}
+use Rattle.stream_lists.specs.Jobs.{Job, with_starts}
+use Rattle.stream_lists.specs.Lists.{sinks_of, is_sink_at, start_in}
 use Rattle.graph_runs.specs.Moments.{limits_at}
 use Rattle.stream_members.specs.Members.{Spot, limits_on}
 use Rattle.stream_members.specs.AnyMembers.{left_in}

@@ -6,20 +6,20 @@ use Rattle.std.specs.Prelude.{slice_get, is_some, Option, Bool, Vec, ◌==◌, �
 use Rattle.std.proofs.lemmas.Bool.{cases_lt, eqb-true, and_parts}
 use Rattle.std.proofs.lemmas.List.{length-set, get_or-set_other, length-append}
 use Rattle.std.proofs.lemmas.Option.{slice_get_within, slice_get-get_or, same_Some}
-use Rattle.graph_runs.specs.phase_history.declared.event.Event.TheVariants.{Dropped}
-use Rattle.graph_runs.specs.phase_history.declared.got.Got.TheVariants.{Ended}
-use Rattle.graph_runs.specs.phase_history.Histories.{History}
-use Rattle.graph_runs.specs.phase_history.Legal.{IsLegal}
-use Rattle.graph_runs.specs.phase_history.Others.{OthersCame}
-use Rattle.graph_runs.specs.phase_history.Replies.{wait_reply}
-use Rattle.graph_runs.specs.phase_accum.Values.{value_by}
-use Rattle.graph_runs.specs.phase_accum.declared.outcome.Outcome.{Outcome}
-use Rattle.graph_runs.specs.graph_base.declared.line.Kind.TheVariants as kind
-use Rattle.graph_runs.specs.graph_base.declared.line.Parent.{Parent}
-use Rattle.graph_runs.specs.graph_base.declared.line.Kind.{Kind}
-use Rattle.graph_runs.specs.graph_base.Graphs.{task_at, is_source}
-use Rattle.graph_runs.specs.graph_base.TaskLines.{IsGraph}
-use Rattle.stream_eval.specs.stream_lists.Jobs.{Job}
+use Rattle.phase_history.specs.declared.event.Event.TheVariants.{Dropped}
+use Rattle.phase_history.specs.declared.got.Got.TheVariants.{Ended}
+use Rattle.phase_history.specs.Histories.{History}
+use Rattle.phase_history.specs.Legal.{IsLegal}
+use Rattle.phase_history.specs.Others.{OthersCame}
+use Rattle.phase_history.specs.Replies.{wait_reply}
+use Rattle.phase_accum.specs.Values.{value_by}
+use Rattle.phase_accum.specs.declared.outcome.Outcome.{Outcome}
+use Rattle.graph_base.specs.declared.line.Kind.TheVariants as kind
+use Rattle.graph_base.specs.declared.line.Parent.{Parent}
+use Rattle.graph_base.specs.declared.line.Kind.{Kind}
+use Rattle.graph_base.specs.Graphs.{task_at, is_source}
+use Rattle.graph_base.specs.TaskLines.{IsGraph}
+use Rattle.stream_lists.specs.Jobs.{Job}
 use Rattle.graph_runs.specs.Moments.{Moment, HasEnded, RanOut, input_at, first_input, limits_at, value_at}
 use Rattle.stream_members.specs.Members.{Spot, limits_on}
 use Rattle.stream_members.specs.AnyMembers.{member_in, left_in}

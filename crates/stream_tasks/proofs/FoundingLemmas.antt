@@ -1,17 +1,17 @@
 -- A founder's own events: it registers tasks and leaves, whatever the others do meanwhile.
 use Rattle.std.proofs.Common.{◌≡◌, ℕ, Bool, true, false, eqb, ◌||◌, List, [], ◌∷◌, ◌++◌, refl, sym, ap, subst, ◌∙◌}
-use Rattle.graph_runs.specs.phase_base.declared.mode.Mode.{Mode}
-use Rattle.graph_runs.specs.phase_history.declared.event.Event.TheVariants.{Made, Registered, RegisteredNow, Signalled, Waited, Dropped}
-use Rattle.graph_runs.specs.phase_history.declared.event.Event.{Event}
-use Rattle.graph_runs.specs.phase_history.Histories.{History}
-use Rattle.graph_runs.specs.phase_history.Others.{events_of, children_in, OthersCame}
-use Rattle.graph_runs.specs.phase_base.Lists.{is_in}
-use Rattle.graph_runs.proofs.phase_history_lemmas.Beginnings.{IsBeginning-trans}
-use Rattle.graph_runs.proofs.phase_history_lemmas.OthersEvents.{IsBeginning-others, events_of-others}
-use Rattle.graph_runs.specs.phase_history.declared.refusal.RegisterRefusal.{RegisterRefusal}
-use Rattle.graph_runs.specs.phase_history.declared.refusal.RegisterRefusal.TheVariants as why
-use Rattle.graph_runs.specs.phase_history.Legal.{IsLegal}
-use Rattle.stream_members.specs.phase_shared.Calls.{RefusesRegister}
+use Rattle.phase_base.specs.declared.mode.Mode.{Mode}
+use Rattle.phase_history.specs.declared.event.Event.TheVariants.{Made, Registered, RegisteredNow, Signalled, Waited, Dropped}
+use Rattle.phase_history.specs.declared.event.Event.{Event}
+use Rattle.phase_history.specs.Histories.{History}
+use Rattle.phase_history.specs.Others.{events_of, children_in, OthersCame}
+use Rattle.phase_base.specs.Lists.{is_in}
+use Rattle.phase_history.proofs.Beginnings.{IsBeginning-trans}
+use Rattle.phase_history.proofs.OthersEvents.{IsBeginning-others, events_of-others}
+use Rattle.phase_history.specs.declared.refusal.RegisterRefusal.{RegisterRefusal}
+use Rattle.phase_history.specs.declared.refusal.RegisterRefusal.TheVariants as why
+use Rattle.phase_history.specs.Legal.{IsLegal}
+use Rattle.phase_shared.specs.Calls.{RefusesRegister}
 use Rattle.stream_members.specs.Members.{MemberState, HasAdded, HasLeftPhaser, Stays, IsMember, limits_on}
 use Rattle.stream_members.specs.AnyMembers.{member_in, member_op, left_in, left_op}
 use Rattle.stream_members.specs.declared.any_member.AnyMember.{AnyMember}

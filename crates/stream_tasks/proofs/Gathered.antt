@@ -2,11 +2,11 @@
 use Rattle.std.proofs.Common.{◌≡◌, ℕ, zero, suc, ◌<◌, ◌≤◌, Bool, true, false, ◌||◌, eqb, List, [], ◌∷◌, ◌++◌, Option, Some, None, length, slice_get, refl, sym, ap, subst, ◌∙◌, ◌⊎◌, inl, inr}
 use Rattle.std.proofs.lemmas.Bool.{cases_lt, eqb-true}
 use Rattle.std.proofs.lemmas.Option.{same_Some, slice_get_past}
-use Rattle.graph_runs.specs.phase_history.Histories.{History}
-use Rattle.graph_runs.specs.phase_history.Others.{OthersCame}
-use Rattle.graph_runs.specs.phase_base.Lists.{is_in}
-use Rattle.graph_runs.proofs.phase_history_lemmas.OthersEvents.{OthersCame-trans, OthersCame-fewer}
-use Rattle.stream_eval.specs.stream_lists.Jobs.{Job}
+use Rattle.phase_history.specs.Histories.{History}
+use Rattle.phase_history.specs.Others.{OthersCame}
+use Rattle.phase_base.specs.Lists.{is_in}
+use Rattle.phase_history.proofs.OthersEvents.{OthersCame-trans, OthersCame-fewer}
+use Rattle.stream_lists.specs.Jobs.{Job}
 use Rattle.graph_runs.proofs.Founding.{in_one}
 use Rattle.stream_members.specs.AnyMembers.{left_in}
 use Rattle.stream_members.specs.declared.any_left.AnyLeft.{AnyLeft}

@@ -4,7 +4,7 @@ use Rattle.std.specs.Prelude.{slice_get}
 use Rattle.std.proofs.lemmas.Bool.{eqb-true, eq-eqb}
 use Rattle.std.proofs.lemmas.List.{length-map}
 use Rattle.std.proofs.lemmas.Option.{slice_get-get_or, slice_get_within, same_Some}
-use Rattle.stream_eval.specs.stream_lists.Jobs.{Job}
+use Rattle.stream_lists.specs.Jobs.{Job}
 use Rattle.graph_runs.specs.Moments.{Moment}
 use Rattle.stream_members.specs.Members.{Spot}
 use Rattle.stream_members.specs.AnyMembers.{left_in}

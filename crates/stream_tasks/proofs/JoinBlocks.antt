@@ -5,13 +5,13 @@ use Rattle.std.specs.List.{range_with_len}
 use Rattle.std.proofs.lemmas.List.{get_or-append-add, get_or-drop, length-drop}
 use Rattle.std.proofs.lemmas.List.FromFn.{get_or-map-range_with_len, length-map-range_with_len}
 use Rattle.std.proofs.lemmas.Nat.{mod_below, div-add-mod', div-mul-add, mod-mul-add}
-use Rattle.stream_eval.specs.stream_filters.Range.{ranged}
-use Rattle.graph_runs.specs.phase_accum.declared.outcome.Outcome.{Outcome}
-use Rattle.graph_runs.specs.graph_base.Graphs.{Task, task_at}
-use Rattle.stream_eval.specs.stream_lists.Jobs.{Job}
-use Rattle.stream_eval.specs.stream_lists.Lists.{entry, in_turn, number, turn_at}
-use Rattle.stream_eval.specs.stream_lists.Ranges.{is_out_of_range}
-use Rattle.stream_eval.specs.stream_lists.Spans.{puts_on, signalled_by}
+use Rattle.stream_filters.specs.Range.{ranged}
+use Rattle.phase_accum.specs.declared.outcome.Outcome.{Outcome}
+use Rattle.graph_base.specs.Graphs.{Task, task_at}
+use Rattle.stream_lists.specs.Jobs.{Job}
+use Rattle.stream_lists.specs.Lists.{entry, in_turn, number, turn_at}
+use Rattle.stream_lists.specs.Ranges.{is_out_of_range}
+use Rattle.stream_lists.specs.Spans.{puts_on, signalled_by}
 use Rattle.graph_runs.specs.Moments.{Moment, TaskRan, input_at, made_now, taken_now}
 use Rattle.graph_runs.specs.Moves.{IsStaying}
 use Rattle.graph_runs.specs.Nexts.{exchanges, signals, waits_first}
@@ -24,7 +24,7 @@ use Rattle.graph_runs.proofs.Following.{Lacks, stays_at}
 use Rattle.graph_runs.proofs.Lacking.{first_is, lacks_here, next_all}
 use Rattle.graph_runs.proofs.Ranged.{taken_ranged}
 use Rattle.graph_runs.proofs.Tasks.{now_at}
-use Rattle.graph_runs.proofs.stream_lists_lemmas.Growing.{map-same}
+use Rattle.stream_lists.proofs.Growing.{map-same}
 use Rattle.stream_tasks.specs.Tasks.{owed_by}
 use Rattle.stream_tasks.proofs.JoinMoments.{GetsShares, MayGetShares, ends, shares_ran, staying_after, taken_before}
 use Rattle.graph_runs.proofs.FollowsPlace.{keeps_staying}

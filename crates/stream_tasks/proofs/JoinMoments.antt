@@ -3,21 +3,21 @@ use Rattle.std.proofs.Common.{◌≡◌, ◌≢◌, ℕ, ◌+◌, ◌-◌, ◌*�
 use mathlib.Core.List.{IsPrefix}
 use Rattle.std.proofs.lemmas.List.{append-nil, length-append, length-map, map-append}
 use Rattle.std.proofs.lemmas.Nat.{mod_below, div-add-mod', div-mul-add}
-use Rattle.graph_runs.specs.phase_base.declared.entry.Entry.{Entry}
-use Rattle.graph_runs.specs.phase_accum.declared.outcome.Outcome.{Outcome}
-use Rattle.graph_runs.specs.phase_history.declared.event.Event.TheVariants.{Waited}
-use Rattle.graph_runs.specs.phase_history.Histories.{History, IsBeginning, has_dropped, start_of}
-use Rattle.graph_runs.specs.phase_history.Legal.{IsLegal}
-use Rattle.graph_runs.specs.phase_history.Phases.{received_by}
-use Rattle.graph_runs.specs.phase_history.Sent.{IsSilent, sent_by}
-use Rattle.graph_runs.specs.graph_base.TaskLines.{IsGraph}
-use Rattle.graph_runs.specs.graph_base.Graphs.{Task, task_at}
-use Rattle.graph_runs.specs.graph_base.declared.line.Kind.TheVariants.{Join}
-use Rattle.graph_runs.specs.graph_base.declared.line.Parent.{Parent}
-use Rattle.stream_eval.specs.stream_lists.Jobs.{Job, index_in}
-use Rattle.stream_eval.specs.stream_lists.Lists.{number}
-use Rattle.stream_eval.specs.stream_lists.Ranges.{is_too_big}
-use Rattle.stream_eval.specs.stream_lists.Spans.{signalled_by, takes_from, turns_below}
+use Rattle.phase_base.specs.declared.entry.Entry.{Entry}
+use Rattle.phase_accum.specs.declared.outcome.Outcome.{Outcome}
+use Rattle.phase_history.specs.declared.event.Event.TheVariants.{Waited}
+use Rattle.phase_history.specs.Histories.{History, IsBeginning, has_dropped, start_of}
+use Rattle.phase_history.specs.Legal.{IsLegal}
+use Rattle.phase_history.specs.Phases.{received_by}
+use Rattle.phase_history.specs.Sent.{IsSilent, sent_by}
+use Rattle.graph_base.specs.TaskLines.{IsGraph}
+use Rattle.graph_base.specs.Graphs.{Task, task_at}
+use Rattle.graph_base.specs.declared.line.Kind.TheVariants.{Join}
+use Rattle.graph_base.specs.declared.line.Parent.{Parent}
+use Rattle.stream_lists.specs.Jobs.{Job, index_in}
+use Rattle.stream_lists.specs.Lists.{number}
+use Rattle.stream_lists.specs.Ranges.{is_too_big}
+use Rattle.stream_lists.specs.Spans.{signalled_by, takes_from, turns_below}
 use Rattle.graph_runs.specs.Moments.{AtMost, HasEnded, HasTaken, IsRegistered, Joined, Moment, OnInput, OnLine, OnOutput, OnPhaser, TakenOn, TaskRan, BeginsBy, input_at, limits_at, made_now, one, value_at}
 use Rattle.graph_runs.specs.Moves.{IsStaying}
 use Rattle.graph_runs.specs.Parts.{HasPart, IsAnsweredBy, SeesOwn}
@@ -27,7 +27,7 @@ use Rattle.graph_runs.proofs.Framed.{part_came, silent_stays}
 use Rattle.graph_runs.proofs.OwnCalls.{AreOwn, BeginsAsBefore, own_came, own_got, own_later, own_on}
 use Rattle.graph_runs.proofs.OwnEvents.{begins, made_more}
 use Rattle.graph_runs.proofs.Whole.{parent_of}
-use Rattle.graph_runs.proofs.phase_history_lemmas.Used.{start_of-longer}
+use Rattle.phase_history.proofs.Used.{start_of-longer}
 use Rattle.stream_tasks.proofs.JoinSteps.{join_ends, join_has_none}
 
 -- ---- one phaser

@@ -4,14 +4,14 @@ use Rattle.std.specs.Global.{Global}
 use Rattle.std.specs.Prelude.{Bool, Vec, take}
 use Rattle.std.proofs.lemmas.Bool.{cases_lt}
 use Rattle.std.proofs.lemmas.Option.{same_Some, slice_get_within}
-use Rattle.graph_runs.specs.phase_accum.declared.outcome.Outcome.{Outcome}
-use Rattle.graph_runs.specs.phase_history.Histories.{History}
-use Rattle.graph_runs.specs.phase_history.Legal.{IsLegal}
-use Rattle.graph_runs.specs.graph_base.declared.line.Kind.TheVariants as kind
-use Rattle.graph_runs.specs.graph_base.Graphs.{Task, task_at}
-use Rattle.stream_eval.specs.stream_lists.Jobs.{Job, index_in}
-use Rattle.stream_eval.specs.stream_lists.Lists.{in_turn, number}
-use Rattle.stream_eval.specs.stream_lists.Ranges.{is_too_big}
+use Rattle.phase_accum.specs.declared.outcome.Outcome.{Outcome}
+use Rattle.phase_history.specs.Histories.{History}
+use Rattle.phase_history.specs.Legal.{IsLegal}
+use Rattle.graph_base.specs.declared.line.Kind.TheVariants as kind
+use Rattle.graph_base.specs.Graphs.{Task, task_at}
+use Rattle.stream_lists.specs.Jobs.{Job, index_in}
+use Rattle.stream_lists.specs.Lists.{in_turn, number}
+use Rattle.stream_lists.specs.Ranges.{is_too_big}
 use Rattle.graph_runs.specs.Moments.{AtMost, Moment, OnInput, OnLine, first_input, input_at, limits_at}
 use Rattle.graph_runs.specs.Moves.{IsStaying}
 use Rattle.graph_runs.specs.Nexts.{registrations_at}
@@ -22,7 +22,7 @@ use Rattle.graph_runs.specs.declared.owed.Owed.TheVariants.{Nothing}
 use Rattle.graph_runs.proofs.Reaching.{one_registration}
 use Rattle.graph_runs.proofs.TellsNext.{staying_at}
 use Rattle.graph_runs.proofs.Turned.{at_other, at_same}
-use Rattle.graph_runs.proofs.stream_lists_lemmas.Ordered.{place-at, place_of_input}
+use Rattle.stream_lists.proofs.Ordered.{place-at, place_of_input}
 use Rattle.stream_members.specs.Members.{Spot}
 use Rattle.stream_members.specs.AnyMembers.{member_in}
 use Rattle.stream_members.specs.declared.any_member.AnyMember.{AnyMember}

@@ -5,20 +5,20 @@ use Rattle.std.specs.List.{range_with_len}
 use Rattle.std.proofs.lemmas.List.{drop-append-le, length-append, length-drop, length-map, map-append}
 use Rattle.std.proofs.lemmas.List.FromFn.{get_or-map-range_with_len, length-range_with_len}
 use mathlib.Core.List.{IsPrefix}
-use Rattle.stream_eval.specs.stream_filters.Range.{ranged}
-use Rattle.stream_eval.specs.stream_filters.declared.fault.TooBigValue.{TooBigValue}
-use Rattle.graph_runs.specs.phase_accum.declared.outcome.Outcome.{Outcome}
-use Rattle.graph_runs.specs.phase_history.Histories.{History}
-use Rattle.graph_runs.specs.graph_base.TaskLines.{IsGraph, has_children}
-use Rattle.graph_runs.specs.graph_base.Graphs.{Task, task_at}
-use Rattle.graph_runs.specs.graph_base.declared.line.Kind.{Kind}
-use Rattle.graph_runs.specs.graph_base.declared.line.Kind.TheVariants.{Source, Fir, Split, Decimate, Join, Peer, Sink}
-use Rattle.graph_runs.specs.graph_base.declared.line.Parent.{Parent}
-use Rattle.graph_runs.specs.graph_base.Registrations.{signalled_by}
-use Rattle.stream_eval.specs.stream_lists.Jobs.{Job}
-use Rattle.stream_eval.specs.stream_lists.Lists.{entry, in_turn, number, turn_at}
-use Rattle.stream_eval.specs.stream_lists.Ranges.{is_out_of_range}
-use Rattle.stream_eval.specs.stream_lists.Spans.{puts_on, takes_from, turns_below}
+use Rattle.stream_filters.specs.Range.{ranged}
+use Rattle.stream_filters.specs.declared.fault.TooBigValue.{TooBigValue}
+use Rattle.phase_accum.specs.declared.outcome.Outcome.{Outcome}
+use Rattle.phase_history.specs.Histories.{History}
+use Rattle.graph_base.specs.TaskLines.{IsGraph, has_children}
+use Rattle.graph_base.specs.Graphs.{Task, task_at}
+use Rattle.graph_base.specs.declared.line.Kind.{Kind}
+use Rattle.graph_base.specs.declared.line.Kind.TheVariants.{Source, Fir, Split, Decimate, Join, Peer, Sink}
+use Rattle.graph_base.specs.declared.line.Parent.{Parent}
+use Rattle.graph_base.specs.Registrations.{signalled_by}
+use Rattle.stream_lists.specs.Jobs.{Job}
+use Rattle.stream_lists.specs.Lists.{entry, in_turn, number, turn_at}
+use Rattle.stream_lists.specs.Ranges.{is_out_of_range}
+use Rattle.stream_lists.specs.Spans.{puts_on, takes_from, turns_below}
 use Rattle.graph_runs.specs.Answers.{output_at, values_up_to}
 use Rattle.graph_runs.specs.Moments.{AtMost, HasExchanged, Moment, first_input, input_at, made_now, taken_now}
 use Rattle.graph_runs.specs.Nexts.{exchanges, is_cut, signals, waits_first}

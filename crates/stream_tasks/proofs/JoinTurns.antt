@@ -7,9 +7,9 @@ use Rattle.std.proofs.lemmas.List.FromFn.{get_or-map-range_with_len, length-map-
 use Rattle.std.proofs.lemmas.Nat.{div-mul-add, mod-mul-add, mul-le}
 use Rattle.std.proofs.lemmas.Slice.{take-put_mid}
 use borrow.Rule.Slice.PartMut.{put_mid}
-use Rattle.graph_runs.specs.phase_accum.declared.outcome.Outcome.{Outcome}
-use Rattle.graph_runs.specs.phase_accum.declared.outcome.Outcome.TheVariants.{Empty}
-use Rattle.stream_eval.specs.stream_lists.Lists.{entry, number, turn_at}
+use Rattle.phase_accum.specs.declared.outcome.Outcome.{Outcome}
+use Rattle.phase_accum.specs.declared.outcome.Outcome.TheVariants.{Empty}
+use Rattle.stream_lists.specs.Lists.{entry, number, turn_at}
 use Rattle.stream_tasks.specs.Joiners.{share_at, shares_in}
 
 -- ---- places

@@ -2,12 +2,12 @@
 use Rattle.std.proofs.Common.{◌≡◌, ◌≢◌, ◌≤◌, ℤ, length, sym, ap, subst, ◌∙◌, arith}
 use Rattle.std.specs.Global.{Global}
 use Rattle.std.specs.Prelude.{Vec}
-use Rattle.graph_runs.specs.graph_base.Graphs.{task_at}
-use Rattle.graph_runs.specs.graph_base.declared.line.Kind.TheVariants.{Decimate, Join, Split}
+use Rattle.graph_base.specs.Graphs.{task_at}
+use Rattle.graph_base.specs.declared.line.Kind.TheVariants.{Decimate, Join, Split}
 use Rattle.graph_runs.specs.Places.{IsMost}
 use Rattle.graph_runs.specs.TaskPlaces as turns
 use Rattle.graph_runs.specs.declared.owed.Owed.TheVariants.{Nothing}
-use Rattle.stream_eval.specs.stream_lists.Jobs.{Job}
+use Rattle.stream_lists.specs.Jobs.{Job}
 use Rattle.stream_tasks.specs.Deals.{HasDealRoom, ServesOutputs}
 use Rattle.stream_tasks.specs.Tasks.{HasStepPlaces, OwesNothing, SignalsBlocks, owed_by, sends_room}
 use Rattle.stream_tasks.specs.declared.task_state.TaskState.{TaskState}

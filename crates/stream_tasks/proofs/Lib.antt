@@ -34,4 +34,3 @@ pub mod Agreed
 pub mod EndEnding
 pub mod Gathered
 pub mod TakingIn
-pub use Rattle.stream_eval.proofs as stream_eval_lemmas

@@ -1,11 +1,11 @@
 -- The kinds whose steps take a value each from their one input: what their wait for several steps
 -- may begin.
 use Rattle.std.proofs.Common.{◌≡◌, ℕ, ◌+◌, ◌<◌, ◌≤◌, length, sym, subst, ◌∙◌, arith}
-use Rattle.graph_runs.specs.graph_base.TaskLines.{IsGraph}
-use Rattle.graph_runs.specs.graph_base.Graphs.{task_at}
-use Rattle.graph_runs.specs.graph_base.declared.line.Kind.TheVariants.{Source}
-use Rattle.stream_eval.specs.stream_lists.Jobs.{Job, samples_at}
-use Rattle.stream_eval.specs.stream_lists.Spans.{takes_from}
+use Rattle.graph_base.specs.TaskLines.{IsGraph}
+use Rattle.graph_base.specs.Graphs.{task_at}
+use Rattle.graph_base.specs.declared.line.Kind.TheVariants.{Source}
+use Rattle.stream_lists.specs.Jobs.{Job, samples_at}
+use Rattle.stream_lists.specs.Spans.{takes_from}
 use Rattle.graph_runs.specs.Moments.{AtMost, HasExchanged, HasSamples, HasTaken, Moment, first_input}
 use Rattle.graph_runs.specs.Moves.{IsBlock, MayBeginTo}
 use Rattle.graph_runs.specs.Parts.{HasPart}

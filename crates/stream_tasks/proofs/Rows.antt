@@ -5,15 +5,15 @@ use Rattle.std.proofs.lemmas.List.{length-append, length-set, append_assoc, appe
 use Rattle.std.specs.List.{All}
 use Rattle.std.proofs.lemmas.List.Elements.{All-append}
 use Rattle.std.proofs.lemmas.Option.{same_Some}
-use Rattle.graph_runs.specs.phase_base.declared.mode.Mode.{Mode}
-use Rattle.graph_runs.specs.phase_history.declared.event.Event.TheVariants.{Registered}
-use Rattle.graph_runs.specs.phase_history.Legal.{IsLegal}
-use Rattle.graph_runs.specs.graph_base.Graphs.{Graph, task_at}
-use Rattle.graph_runs.specs.graph_base.Registrations.{registrations_of, no_registration}
-use Rattle.graph_runs.specs.graph_base.TaskLines.{IsGraph}
-use Rattle.graph_runs.specs.graph_base.declared.registration.Registration.{Registration}
-use Rattle.stream_eval.specs.stream_lists.Jobs.{Job}
-use Rattle.stream_eval.proofs.stream_lists_lemmas.Basics.{each-push}
+use Rattle.phase_base.specs.declared.mode.Mode.{Mode}
+use Rattle.phase_history.specs.declared.event.Event.TheVariants.{Registered}
+use Rattle.phase_history.specs.Legal.{IsLegal}
+use Rattle.graph_base.specs.Graphs.{Graph, task_at}
+use Rattle.graph_base.specs.Registrations.{registrations_of, no_registration}
+use Rattle.graph_base.specs.TaskLines.{IsGraph}
+use Rattle.graph_base.specs.declared.registration.Registration.{Registration}
+use Rattle.stream_lists.specs.Jobs.{Job}
+use Rattle.stream_lists.proofs.Basics.{each-push}
 use Rattle.stream_members.specs.Members.{Spot, limits_on}
 use Rattle.stream_members.specs.AnyPhasers.{phaser_op, phaser_spot, IsFounderOf}
 use Rattle.stream_members.specs.declared.any_phaser.AnyPhaser.{AnyPhaser}

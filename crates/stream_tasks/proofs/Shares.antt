@@ -10,8 +10,8 @@ use Rattle.std.proofs.lemmas.Nat.{div-add-mod', div-mul-add, mod-mul-add, mod_be
 use Rattle.graph_runs.proofs.Entries.{get_or-drop, prefix_at, prefix_by}
 use Rattle.graph_runs.proofs.Nexts.{turns-next, turns-stay}
 use Rattle.graph_runs.proofs.OwnEvents.{eq_case}
-use Rattle.stream_eval.specs.stream_lists.Lists.{entry, every}
-use Rattle.stream_eval.specs.stream_lists.Spans.{turns_below}
+use Rattle.stream_lists.specs.Lists.{entry, every}
+use Rattle.stream_lists.specs.Spans.{turns_below}
 
 -- ---- turns
 

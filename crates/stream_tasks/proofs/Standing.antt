@@ -2,8 +2,8 @@
 use Rattle.std.proofs.Common.{◌≡◌, ◌++◌, ℕ, List, [], ◌∷◌, ap, ◌∙◌}
 use Rattle.std.proofs.lemmas.List.{append_assoc}
 use Rattle.std.proofs.lemmas.List.Elements.{All-append, All-cons, All-nil}
-use Rattle.stream_eval.specs.stream_lists.Jobs.{Job}
-use Rattle.stream_eval.specs.stream_lists.declared.stand.Stand.{Stand}
+use Rattle.stream_lists.specs.Jobs.{Job}
+use Rattle.stream_lists.specs.declared.stand.Stand.{Stand}
 use Rattle.stream_tasks.specs.Standings.{IsStandOf, PutsStands}
 
 -- one more stands behind them

@@ -6,12 +6,12 @@ use Rattle.std.specs.Vec.{with_item}
 use Rattle.std.proofs.lemmas.Bool.{cases_lt}
 use Rattle.std.proofs.lemmas.List.{length-append, length-map, length-set, nil_from_length}
 use Rattle.std.proofs.lemmas.Option.{slice_get_within, slice_get_past, same_Some}
-use Rattle.graph_runs.specs.phase_base.declared.mode.Mode.{Mode}
-use Rattle.graph_runs.specs.graph_base.declared.registration.Registration.{Registration}
-use Rattle.graph_runs.specs.graph_base.Graphs.{task_at}
-use Rattle.graph_runs.specs.graph_base.TaskLines.{IsGraph, HasEnds}
-use Rattle.stream_eval.specs.stream_lists.Jobs.{Job}
-use Rattle.stream_eval.proofs.stream_lists_lemmas.graph_base_lemmas.Registered.{registrations-phasers}
+use Rattle.phase_base.specs.declared.mode.Mode.{Mode}
+use Rattle.graph_base.specs.declared.registration.Registration.{Registration}
+use Rattle.graph_base.specs.Graphs.{task_at}
+use Rattle.graph_base.specs.TaskLines.{IsGraph, HasEnds}
+use Rattle.stream_lists.specs.Jobs.{Job}
+use Rattle.graph_base.proofs.Registered.{registrations-phasers}
 use Rattle.graph_runs.specs.Moments.{Moment}
 use Rattle.graph_runs.specs.Turned.{after_register, after_register_now}
 use Rattle.stream_members.specs.Members.{Spot}

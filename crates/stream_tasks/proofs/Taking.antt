@@ -4,14 +4,14 @@ use Rattle.std.proofs.Common.{◌≡◌, ◌≢◌, ℕ, zero, suc, nat_eq, true
 use Rattle.std.specs.Prelude.{Ok, Option, drop, take}
 use Rattle.std.proofs.lemmas.List.{append_assoc, append-nil, length-append, length-take, map-append, take_all}
 use Rattle.std.proofs.Math.Seq.{take-add}
-use Rattle.stream_eval.specs.stream_filters.Filter.{FirState}
-use Rattle.stream_eval.specs.stream_filters.Range.{before_out_of_range, ranged}
-use Rattle.stream_eval.specs.stream_lists.Lists.{number}
-use Rattle.stream_eval.proofs.stream_lists_lemmas.stream_filters_lemmas.Stepped.{length-outputs_of_block, outputs_of_block-append, ranged-all}
-use Rattle.graph_runs.specs.phase_accum.declared.outcome.Outcome.{Outcome}
-use Rattle.graph_runs.specs.graph_base.Graphs.{Task}
-use Rattle.graph_runs.specs.graph_base.declared.line.Kind.{Kind}
-use Rattle.graph_runs.specs.graph_base.declared.line.Kind.TheVariants.{Source, Fir, Split, Decimate, Join, Peer, Sink}
+use Rattle.stream_filters.specs.Filter.{FirState}
+use Rattle.stream_filters.specs.Range.{before_out_of_range, ranged}
+use Rattle.stream_lists.specs.Lists.{number}
+use Rattle.stream_filters.proofs.Stepped.{length-outputs_of_block, outputs_of_block-append, ranged-all}
+use Rattle.phase_accum.specs.declared.outcome.Outcome.{Outcome}
+use Rattle.graph_base.specs.Graphs.{Task}
+use Rattle.graph_base.specs.declared.line.Kind.{Kind}
+use Rattle.graph_base.specs.declared.line.Kind.TheVariants.{Source, Fir, Split, Decimate, Join, Peer, Sink}
 use Rattle.graph_runs.specs.Moves.{IsBlock}
 use Rattle.graph_runs.specs.Steps.{HasFilter}
 use Rattle.graph_runs.specs.TaskPlaces as turns

@@ -3,10 +3,10 @@ use Rattle.std.proofs.Common.{◌≡◌, ◌≢◌, ℕ, zero, suc, ◌+◌, ◌
 use Rattle.std.proofs.lemmas.Bool.{eqb-true, and_parts, cases_lt}
 use Rattle.std.proofs.lemmas.Option.{same_Some, slice_get_past}
 use Rattle.std.proofs.lemmas.List.{length-append}
-use Rattle.graph_runs.specs.phase_base.Lists.{is_distinct, is_in}
-use Rattle.graph_runs.proofs.phase_history_lemmas.OthersEvents.{OthersCame-refl, OthersCame-trans, OthersCame-fewer}
+use Rattle.phase_base.specs.Lists.{is_distinct, is_in}
+use Rattle.phase_history.proofs.OthersEvents.{OthersCame-refl, OthersCame-trans, OthersCame-fewer}
 use Rattle.graph_runs.proofs.OwnEvents.{eq_case}
-use Rattle.stream_eval.specs.stream_lists.Jobs.{Job}
+use Rattle.stream_lists.specs.Jobs.{Job}
 use Rattle.graph_runs.specs.TaskPlaces.{registration_at}
 use Rattle.stream_members.specs.AnyMembers.{left_in}
 use Rattle.stream_members.specs.declared.any_left.AnyLeft.{AnyLeft}

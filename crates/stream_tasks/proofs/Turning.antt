@@ -5,20 +5,20 @@ use Rattle.std.specs.Vec.{with_item}
 use Rattle.std.specs.Prelude.{is_some, Ok, Option, Bool, Vec}
 use Rattle.std.proofs.lemmas.List.{length-set}
 use Rattle.std.proofs.lemmas.Option.{slice_get-get_or, same_Some}
-use Rattle.stream_eval.specs.stream_filters.Filter.{FirState}
-use Rattle.graph_runs.specs.phase_accum.declared.outcome.Outcome.{Outcome}
-use Rattle.graph_runs.specs.phase_history.Histories.{History}
-use Rattle.graph_runs.specs.graph_base.declared.line.Kind.{Kind}
-use Rattle.graph_runs.specs.graph_base.declared.line.Kind.TheVariants.{Source, Fir, Split, Decimate, Join, Peer, Sink}
-use Rattle.graph_runs.specs.graph_base.Graphs.{Task, task_at, phaser_at}
-use Rattle.stream_eval.specs.stream_lists.Jobs.{Job}
+use Rattle.stream_filters.specs.Filter.{FirState}
+use Rattle.phase_accum.specs.declared.outcome.Outcome.{Outcome}
+use Rattle.phase_history.specs.Histories.{History}
+use Rattle.graph_base.specs.declared.line.Kind.{Kind}
+use Rattle.graph_base.specs.declared.line.Kind.TheVariants.{Source, Fir, Split, Decimate, Join, Peer, Sink}
+use Rattle.graph_base.specs.Graphs.{Task, task_at, phaser_at}
+use Rattle.stream_lists.specs.Jobs.{Job}
 use Rattle.graph_runs.specs.Moments.{Moment}
 use Rattle.stream_members.specs.Members.{Spot}
 use Rattle.stream_members.specs.AnyMembers.{member_in, room_for}
 use Rattle.stream_members.specs.declared.any_member.AnyMember.{AnyMember}
 use Rattle.stream_members.specs.declared.places.Places.{Places}
 use Rattle.graph_runs.specs.Answers.{output_at}
-use Rattle.graph_runs.specs.phase_base.declared.operation.Op.{Op}
+use Rattle.phase_base.specs.declared.operation.Op.{Op}
 use Rattle.graph_runs.specs.Nexts.{registrations_at}
 use Rattle.graph_runs.specs.TaskPlaces as turns
 use Rattle.graph_runs.specs.TaskPlaces.{StandsUpTo, registration_at, registration_of_output, owed_after_signal}
@@ -31,7 +31,7 @@ use Rattle.graph_runs.proofs.KnownOthers.{known_moved}
 use Rattle.graph_runs.proofs.FollowsPlace.{seen_follows}
 use Rattle.graph_runs.proofs.Signalling.{owed}
 use Rattle.graph_runs.proofs.Standing.{of_output}
-use Rattle.graph_runs.specs.graph_base.Registrations.{signalled_by}
+use Rattle.graph_base.specs.Registrations.{signalled_by}
 use Rattle.graph_runs.proofs.TellsNext.{owes_as}
 use Rattle.graph_runs.specs.Turned.{after_signals}
 use Rattle.graph_runs.specs.Steps.{HasFilter}

@@ -1,24 +1,24 @@
 -- What the code keeps of a task between threads: its children, its seed, and what it holds.
 use Rattle.std.specs.Prelude.{◌≡◌, ◌≢◌, ℕ, ◌+◌, ◌<◌, ◌≤◌, ℤ, List, [], ◌∷◌, ◌++◌, length, map, slice_get, slice_set, Option, Some, None, true, false}
 use Rattle.std.specs.List.{All}
-use Rattle.stream_eval.specs.stream_lists.Jobs.{Job}
+use Rattle.stream_lists.specs.Jobs.{Job}
 use Rattle.graph_runs.specs.Moments.{Moment}
-use Rattle.graph_runs.specs.phase_accum.declared.outcome.Outcome.{Outcome}
-use Rattle.stream_eval.specs.stream_filters.Filter.{FirState}
+use Rattle.phase_accum.specs.declared.outcome.Outcome.{Outcome}
+use Rattle.stream_filters.specs.Filter.{FirState}
 use Rattle.stream_members.specs.Members.{Spot}
 use Rattle.graph_runs.specs.TaskPlaces as turns
 use Rattle.graph_runs.specs.TaskPlaces.{registration_at}
-use Rattle.stream_eval.specs.stream_lists.Lists.{number}
-use Rattle.stream_eval.specs.stream_lists.Ranges.{is_too_big}
+use Rattle.stream_lists.specs.Lists.{number}
+use Rattle.stream_lists.specs.Ranges.{is_too_big}
 use Rattle.stream_members.specs.AnyMembers.{member_in}
 use Rattle.stream_members.specs.declared.any_member.AnyMember.{AnyMember}
-use Rattle.graph_runs.specs.graph_base.declared.registration.Registration.{Registration}
+use Rattle.graph_base.specs.declared.registration.Registration.{Registration}
 use Rattle.graph_runs.specs.Nexts.{registrations_at, is_cut}
 use Rattle.graph_runs.specs.declared.owed.Owed.{Owed}
 use Rattle.graph_runs.specs.declared.owed.Owed.TheVariants.{Nothing}
-use Rattle.graph_runs.specs.graph_base.declared.line.Kind.TheVariants.{Fir}
-use Rattle.graph_runs.specs.graph_base.declared.line.Parent.{Parent}
-use Rattle.graph_runs.specs.graph_base.Graphs.{task_at}
+use Rattle.graph_base.specs.declared.line.Kind.TheVariants.{Fir}
+use Rattle.graph_base.specs.declared.line.Parent.{Parent}
+use Rattle.graph_base.specs.Graphs.{task_at}
 use Rattle.graph_runs.specs.Places.{HasChildrenBy}
 use Rattle.graph_runs.specs.Steps.{HasFilter}
 use Rattle.stream_tasks.specs.declared.child.Child.{Child}

@@ -1,15 +1,15 @@
 -- A splitter between a wait and its signals: what it has taken by the wait, and how far it has
 -- dealt that to its outputs.
 use Rattle.std.specs.Prelude.{◌≡◌, ◌≢◌, ℕ, ◌+◌, ◌-◌, ◌/◌, ◌%◌, ◌<◌, ◌≤◌, ◌⊎◌, ℤ, List, [], length, drop, slice_get, nat_lt, if◌then◌else◌}
-use Rattle.graph_runs.specs.graph_base.declared.line.Kind.TheVariants.{Split}
-use Rattle.graph_runs.specs.graph_base.Graphs.{task_at, phaser_at}
+use Rattle.graph_base.specs.declared.line.Kind.TheVariants.{Split}
+use Rattle.graph_base.specs.Graphs.{task_at, phaser_at}
 use Rattle.graph_runs.specs.Answers.{output_at}
 use Rattle.graph_runs.specs.Moments.{Moment}
 use Rattle.graph_runs.specs.Moves.{IsStaying}
 use Rattle.graph_runs.specs.Nexts.{registrations_at}
 use Rattle.graph_runs.specs.TaskPlaces.{registration_at}
-use Rattle.stream_eval.specs.stream_lists.Jobs.{Job}
-use Rattle.stream_eval.specs.stream_lists.Spans.{turns_below}
+use Rattle.stream_lists.specs.Jobs.{Job}
+use Rattle.stream_lists.specs.Spans.{turns_below}
 use Rattle.stream_members.specs.AnyMembers.{room_for}
 use Rattle.stream_members.specs.declared.places.Places.{Places}
 use Rattle.stream_tasks.specs.Holds.{HasSendPlaces}

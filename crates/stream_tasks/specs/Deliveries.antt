@@ -1,6 +1,6 @@
 -- A child whose registrations are all made goes on as a task of its own.
 use Rattle.std.specs.Prelude.{◌≡◌, ℕ, ◌≤◌, ◌++◌, length, slice_get, Some}
-use Rattle.stream_eval.specs.stream_lists.Jobs.{Job}
+use Rattle.stream_lists.specs.Jobs.{Job}
 use Rattle.graph_runs.specs.Nexts.{registrations_at}
 use Rattle.stream_tasks.specs.declared.child.Child.{Child}
 use Rattle.stream_tasks.specs.declared.task_state.TaskState.{TaskState}

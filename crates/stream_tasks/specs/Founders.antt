@@ -1,13 +1,13 @@
 -- The founder of a phaser, as contracts see it, the tasks that it registers, and what it leaves
 -- behind.
 use Rattle.std.specs.Prelude.{◌≡◌, ℕ, List, [], ◌∷◌, true}
-use Rattle.graph_runs.specs.phase_base.declared.mode.Mode.{Mode}
-use Rattle.graph_runs.specs.phase_base.declared.operation.Op.{Op}
-use Rattle.graph_runs.specs.phase_history.declared.event.Event.TheVariants.{Made, Registered}
-use Rattle.graph_runs.specs.phase_history.Histories.{History, IsBeginning}
-use Rattle.graph_runs.specs.phase_history.Legal.{IsLegal}
-use Rattle.graph_runs.specs.phase_history.Others.{events_of, children_in}
-use Rattle.graph_runs.specs.phase_base.Lists.{is_in}
+use Rattle.phase_base.specs.declared.mode.Mode.{Mode}
+use Rattle.phase_base.specs.declared.operation.Op.{Op}
+use Rattle.phase_history.specs.declared.event.Event.TheVariants.{Made, Registered}
+use Rattle.phase_history.specs.Histories.{History, IsBeginning}
+use Rattle.phase_history.specs.Legal.{IsLegal}
+use Rattle.phase_history.specs.Others.{events_of, children_in}
+use Rattle.phase_base.specs.Lists.{is_in}
 use Rattle.stream_members.specs.Members.{Spot, limits_on, MemberState}
 use Rattle.stream_members.specs.AnyMembers.{member_in, member_op, left_in, left_op}
 use Rattle.stream_members.specs.declared.any_member.AnyMember.{AnyMember}

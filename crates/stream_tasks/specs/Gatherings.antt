@@ -1,9 +1,9 @@
 -- What the tasks up to some line, and the founders, have seen, put together.
 use Rattle.std.specs.Prelude.{◌≡◌, ℕ, ◌<◌, List, [], ◌∷◌, length, slice_get, Option, Some, None, true, false}
-use Rattle.graph_runs.specs.phase_history.Histories.{History}
-use Rattle.graph_runs.specs.phase_history.Others.{OthersCame}
-use Rattle.graph_runs.specs.phase_base.Lists.{is_in}
-use Rattle.stream_eval.specs.stream_lists.Jobs.{Job}
+use Rattle.phase_history.specs.Histories.{History}
+use Rattle.phase_history.specs.Others.{OthersCame}
+use Rattle.phase_base.specs.Lists.{is_in}
+use Rattle.stream_lists.specs.Jobs.{Job}
 use Rattle.graph_runs.specs.Moments.{Moment}
 use Rattle.stream_members.specs.AnyMembers.{left_in}
 use Rattle.stream_members.specs.declared.any_left.AnyLeft.{AnyLeft}

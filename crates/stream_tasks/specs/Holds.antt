@@ -1,16 +1,16 @@
 -- What the calls of a registration do to what it has seen.
 use Rattle.std.specs.Prelude.{◌≡◌, ℕ, ◌≤◌, ⊤, ℤ, List, [], ◌∷◌, ◌++◌, length, map, take, Option, Result, Ok, Err}
-use Rattle.graph_runs.specs.phase_accum.Values.{value_by}
-use Rattle.graph_runs.specs.phase_accum.declared.outcome.Outcome.{Outcome}
-use Rattle.graph_runs.specs.phase_accum.declared.single.Single.{Single}
-use Rattle.graph_runs.specs.phase_history.declared.event.Event.{Event}
-use Rattle.graph_runs.specs.phase_history.declared.event.Event.TheVariants.{Signalled, Waited, Dropped}
-use Rattle.graph_runs.specs.phase_history.declared.got.Got.TheVariants as got
-use Rattle.graph_runs.specs.phase_history.Histories.{History}
-use Rattle.graph_runs.specs.phase_history.Phases.{received_by}
-use Rattle.graph_runs.specs.phase_history.Legal.{IsLegal}
-use Rattle.graph_runs.specs.phase_history.Others.{OthersCame}
-use Rattle.graph_runs.specs.phase_history.Replies.{wait_reply}
+use Rattle.phase_accum.specs.Values.{value_by}
+use Rattle.phase_accum.specs.declared.outcome.Outcome.{Outcome}
+use Rattle.phase_accum.specs.declared.single.Single.{Single}
+use Rattle.phase_history.specs.declared.event.Event.{Event}
+use Rattle.phase_history.specs.declared.event.Event.TheVariants.{Signalled, Waited, Dropped}
+use Rattle.phase_history.specs.declared.got.Got.TheVariants as got
+use Rattle.phase_history.specs.Histories.{History}
+use Rattle.phase_history.specs.Phases.{received_by}
+use Rattle.phase_history.specs.Legal.{IsLegal}
+use Rattle.phase_history.specs.Others.{OthersCame}
+use Rattle.phase_history.specs.Replies.{wait_reply}
 use Rattle.graph_runs.specs.Moments.{one}
 use Rattle.stream_members.specs.Members.{limits_on}
 use Rattle.stream_members.specs.AnyMembers.{member_in, member_op, left_in, left_op, room_for}

@@ -1,13 +1,13 @@
 -- A joiner that takes values one by one, or a share of each input at once, and puts them by blocks.
 use Rattle.std.specs.Prelude.{◌≡◌, ℕ, ◌+◌, ◌*◌, ◌<◌, ◌≤◌, ℤ, List, length, map, take, drop, get_or, false}
 use Rattle.std.specs.List.{range_with_len}
-use Rattle.graph_runs.specs.graph_base.Graphs.{task_at}
-use Rattle.graph_runs.specs.graph_base.declared.line.Kind.TheVariants.{Join}
-use Rattle.graph_runs.specs.phase_accum.declared.outcome.Outcome.{Outcome}
+use Rattle.graph_base.specs.Graphs.{task_at}
+use Rattle.graph_base.specs.declared.line.Kind.TheVariants.{Join}
+use Rattle.phase_accum.specs.declared.outcome.Outcome.{Outcome}
 use Rattle.graph_runs.specs.Moments.{AtMost, first_input}
 use Rattle.graph_runs.specs.Nexts.{is_cut}
-use Rattle.stream_eval.specs.stream_lists.Jobs.{Job}
-use Rattle.stream_eval.specs.stream_lists.Lists.{number}
+use Rattle.stream_lists.specs.Jobs.{Job}
+use Rattle.stream_lists.specs.Lists.{number}
 use Rattle.stream_members.specs.Members.{Spot}
 use Rattle.stream_tasks.specs.Holds.{HoldGoesOn, MemberHasWaited}
 use Rattle.stream_tasks.specs.Tasks.{IsTask}

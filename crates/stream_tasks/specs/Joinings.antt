@@ -1,8 +1,8 @@
 -- What members that left have seen, put together phaser by phaser.
 use Rattle.std.specs.Prelude.{◌≡◌, ℕ, List, slice_get, Option, Some, true, false}
-use Rattle.graph_runs.specs.phase_history.Legal.{IsLegal}
-use Rattle.graph_runs.specs.phase_history.Others.{OthersCame}
-use Rattle.graph_runs.specs.phase_base.Lists.{is_in}
+use Rattle.phase_history.specs.Legal.{IsLegal}
+use Rattle.phase_history.specs.Others.{OthersCame}
+use Rattle.phase_base.specs.Lists.{is_in}
 use Rattle.stream_members.specs.Members.{limits_on}
 use Rattle.stream_members.specs.AnyMembers.{left_in, left_op}
 use Rattle.stream_members.specs.declared.any_left.AnyLeft.{AnyLeft}

@@ -1,9 +1,9 @@
 -- The phasers of a run between threads, their founders, and the tasks that begin on them.
 use Rattle.std.specs.Prelude.{◌≡◌, ℕ, zero, suc, ◌+◌, List, [], ◌∷◌, length, slice_get, None, Some}
-use Rattle.graph_runs.specs.phase_base.declared.operation.Op.{Op}
-use Rattle.graph_runs.specs.phase_history.Legal.{IsLegal}
-use Rattle.graph_runs.specs.graph_base.Graphs.{phaser_at}
-use Rattle.stream_eval.specs.stream_lists.Jobs.{Job}
+use Rattle.phase_base.specs.declared.operation.Op.{Op}
+use Rattle.phase_history.specs.Legal.{IsLegal}
+use Rattle.graph_base.specs.Graphs.{phaser_at}
+use Rattle.stream_lists.specs.Jobs.{Job}
 use Rattle.stream_members.specs.Members.{Spot, limits_on}
 use Rattle.stream_members.specs.AnyMembers.{member_in, member_op, left_in, left_op}
 use Rattle.stream_members.specs.AnyPhasers.{phaser_op, phaser_spot, IsFounderOf}

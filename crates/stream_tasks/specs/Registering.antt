@@ -1,10 +1,10 @@
 -- A child while its parent registers it: the parent's moment serves both.
 use Rattle.std.specs.Prelude.{◌≡◌, ℕ, ◌<◌, List, length, get_or, slice_get, Option, Some, None, true, false}
-use Rattle.graph_runs.specs.phase_base.declared.mode.Mode.{Mode}
-use Rattle.graph_runs.specs.phase_history.declared.event.Event.{Event}
-use Rattle.graph_runs.specs.phase_history.declared.event.Event.TheVariants.{Registered, RegisteredNow}
-use Rattle.graph_runs.specs.phase_history.Histories.{History, done_of}
-use Rattle.stream_eval.specs.stream_lists.Jobs.{Job}
+use Rattle.phase_base.specs.declared.mode.Mode.{Mode}
+use Rattle.phase_history.specs.declared.event.Event.{Event}
+use Rattle.phase_history.specs.declared.event.Event.TheVariants.{Registered, RegisteredNow}
+use Rattle.phase_history.specs.Histories.{History, done_of}
+use Rattle.stream_lists.specs.Jobs.{Job}
 use Rattle.graph_runs.specs.Moments.{Moment}
 use Rattle.stream_members.specs.Members.{Spot}
 use Rattle.stream_members.specs.AnyMembers.{member_in, member_op}
@@ -12,7 +12,7 @@ use Rattle.stream_members.specs.declared.any_member.AnyMember.{AnyMember}
 use Rattle.graph_runs.specs.TaskPlaces.{registration_at}
 use Rattle.graph_runs.specs.Places.{IsJoining}
 use Rattle.graph_runs.specs.TaskEnds.{HasOwnCalls, IsChildOf}
-use Rattle.graph_runs.specs.graph_base.Graphs.{task_at}
+use Rattle.graph_base.specs.Graphs.{task_at}
 use Rattle.stream_tasks.specs.Holds.{HasMade}
 use Rattle.stream_tasks.specs.Tasks.{IsHeldOn, IsOwnTaskAt, OwesNothing}
 use Rattle.stream_tasks.specs.declared.child.Child.{Child}

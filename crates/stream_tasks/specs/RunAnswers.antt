@@ -1,13 +1,13 @@
 -- What a run of a job has told.
 use Rattle.std.specs.Prelude.{◌≡◌, ℕ, ◌≤◌, List, map, get_or, Some, Ok}
 use Rattle.std.specs.List.{All}
-use Rattle.graph_runs.specs.graph_base.Graphs.{task_at}
+use Rattle.graph_base.specs.Graphs.{task_at}
 use Rattle.stream_eval.specs.Results.{sink_values}
 use Rattle.stream_eval.specs.declared.whole.Lines.{Lines}
-use Rattle.stream_eval.specs.stream_lists.Jobs.{Job, with_starts}
-use Rattle.stream_eval.specs.stream_lists.Lists.{start_in}
-use Rattle.stream_eval.specs.stream_lists.Ranges.{answer_of}
-use Rattle.stream_eval.specs.stream_lists.Spans.{lengths_of}
+use Rattle.stream_lists.specs.Jobs.{Job, with_starts}
+use Rattle.stream_lists.specs.Lists.{start_in}
+use Rattle.stream_lists.specs.Ranges.{answer_of}
+use Rattle.stream_lists.specs.Spans.{lengths_of}
 
 -- the lines are the answer of a job for some starts of its sinks that join now, and each of these
 -- tells where it began: at most one phase behind the last of its phaser's list

@@ -1,7 +1,7 @@
 -- What stands for a run where none is meant.
 use Rattle.std.specs.Prelude.{[]}
-use Rattle.graph_runs.specs.graph_base.Graphs.{no_graph}
-use Rattle.stream_eval.specs.stream_lists.Jobs.{Job}
+use Rattle.graph_base.specs.Graphs.{no_graph}
+use Rattle.stream_lists.specs.Jobs.{Job}
 
 -- a job of no tasks
 abbrev pub no_job : Job

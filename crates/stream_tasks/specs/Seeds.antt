@@ -1,8 +1,8 @@
 -- A task before it is registered, and what it has received of its founders.
 use Rattle.std.specs.Prelude.{◌≡◌, ℕ, ◌<◌, ◌≤◌, List, [], length, slice_get, Some, false}
-use Rattle.graph_runs.specs.graph_base.declared.line.Parent.{Parent}
-use Rattle.graph_runs.specs.graph_base.Graphs.{task_at}
-use Rattle.stream_eval.specs.stream_lists.Jobs.{Job, samples_at}
+use Rattle.graph_base.specs.declared.line.Parent.{Parent}
+use Rattle.graph_base.specs.Graphs.{task_at}
+use Rattle.stream_lists.specs.Jobs.{Job, samples_at}
 use Rattle.stream_members.specs.Members.{Spot}
 use Rattle.stream_members.specs.AnyMembers.{member_in}
 use Rattle.stream_members.specs.declared.any_member.AnyMember.{AnyMember}

@@ -1,20 +1,20 @@
 -- Where a task stands on its phasers, as it is told of a run that stalled.
 use Rattle.std.specs.Prelude.{◌≡◌, ℕ, ℤ, ◌<◌, List, [], ◌∷◌, ◌++◌, Option, None, length, if◌then◌else◌}
 use Rattle.std.specs.List.{All}
-use Rattle.graph_runs.specs.graph_base.Graphs.{is_source, task_at}
+use Rattle.graph_base.specs.Graphs.{is_source, task_at}
 use Rattle.graph_runs.specs.declared.owed.Owed.{Owed}
 use Rattle.graph_runs.specs.declared.owed.Owed.TheVariants as owed
 use Rattle.graph_runs.specs.Moments.{first_input}
 use Rattle.graph_runs.specs.Nexts.{registrations_at}
 use Rattle.graph_runs.specs.TaskPlaces.{registration_at}
-use Rattle.graph_runs.specs.phase_base.declared.entry.Entry.{Entry}
-use Rattle.graph_runs.specs.phase_base.Members.{entry_of}
-use Rattle.graph_runs.specs.phase_history.Histories.{members_of}
-use Rattle.stream_eval.specs.stream_lists.Jobs.{Job}
-use Rattle.stream_eval.specs.stream_lists.Stands.{call_on}
-use Rattle.stream_eval.specs.stream_lists.declared.stand.Stand.{Stand}
-use Rattle.stream_eval.specs.stream_lists.declared.stand.End.{End}
-use Rattle.stream_eval.specs.stream_lists.declared.stand.End.TheVariants as end
+use Rattle.phase_base.specs.declared.entry.Entry.{Entry}
+use Rattle.phase_base.specs.Members.{entry_of}
+use Rattle.phase_history.specs.Histories.{members_of}
+use Rattle.stream_lists.specs.Jobs.{Job}
+use Rattle.stream_lists.specs.Stands.{call_on}
+use Rattle.stream_lists.specs.declared.stand.Stand.{Stand}
+use Rattle.stream_lists.specs.declared.stand.End.{End}
+use Rattle.stream_lists.specs.declared.stand.End.TheVariants as end
 use Rattle.stream_members.specs.AnyMembers.{member_in}
 use Rattle.stream_tasks.specs.Deals.{next_output_of}
 use Rattle.stream_tasks.specs.declared.hold.Hold.{Hold}

@@ -1,8 +1,8 @@
 -- What a task leaves behind, and what the end of a run knows of it.
 use Rattle.std.specs.Prelude.{◌≡◌, ℕ, ℤ, ◌<◌, ◌≤◌, get_or, List, [], ◌∷◌, length, map, slice_get, Option, Some, None, Bool, true, false, ◌==◌, if◌then◌else◌}
-use Rattle.graph_runs.specs.phase_history.Legal.{IsLegal}
-use Rattle.graph_runs.specs.graph_base.Graphs.{phaser_at}
-use Rattle.stream_eval.specs.stream_lists.Jobs.{Job}
+use Rattle.phase_history.specs.Legal.{IsLegal}
+use Rattle.graph_base.specs.Graphs.{phaser_at}
+use Rattle.stream_lists.specs.Jobs.{Job}
 use Rattle.graph_runs.specs.Moments.{Moment, limits_at}
 use Rattle.stream_members.specs.Members.{Spot, limits_on}
 use Rattle.stream_members.specs.AnyMembers.{left_in, left_op}

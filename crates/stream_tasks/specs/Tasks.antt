@@ -1,12 +1,12 @@
 -- What the code of a task keeps: a moment of the task's own, at which each of its registrations has
 -- just the history that it has seen.
 use Rattle.std.specs.Prelude.{◌≡◌, ◌≢◌, ◌⊎◌, ℕ, ◌<◌, ◌≤◌, ℤ, List, [], ◌∷◌, length, map, get_or, slice_get, Some, Ok, true, false}
-use Rattle.graph_runs.specs.graph_base.declared.line.Parent.{Parent}
-use Rattle.graph_runs.specs.graph_base.declared.line.Kind.{Kind}
-use Rattle.graph_runs.specs.graph_base.declared.line.Kind.TheVariants.{Decimate, Fir, Join, Sink, Source, Split}
-use Rattle.graph_runs.specs.graph_base.Graphs.{task_at, phaser_at}
-use Rattle.graph_runs.specs.graph_base.TaskLines.{IsGraph}
-use Rattle.stream_eval.specs.stream_lists.Jobs.{Job, samples_at}
+use Rattle.graph_base.specs.declared.line.Parent.{Parent}
+use Rattle.graph_base.specs.declared.line.Kind.{Kind}
+use Rattle.graph_base.specs.declared.line.Kind.TheVariants.{Decimate, Fir, Join, Sink, Source, Split}
+use Rattle.graph_base.specs.Graphs.{task_at, phaser_at}
+use Rattle.graph_base.specs.TaskLines.{IsGraph}
+use Rattle.stream_lists.specs.Jobs.{Job, samples_at}
 use Rattle.graph_runs.specs.Moments.{Moment, HasEnded, limits_at}
 use Rattle.stream_members.specs.Members.{Spot, limits_on}
 use Rattle.stream_members.specs.AnyMembers.{member_in, member_op, left_in, left_op, room_for}

@@ -2,8 +2,8 @@
 ghost use Rattle.std.specs.Prelude.{◌≡◌, ◌≢◌, ◌<◌, ◌≤◌, length, true, IfOk};
 ghost use Rattle.graph_runs.specs.Places.{MayMake, IsMost};
 ghost use Rattle.graph_runs.specs.Answers.{output_at};
-ghost use Rattle.graph_runs.specs.graph_base.Graphs.{task_at, phaser_at};
-ghost use Rattle.graph_runs.specs.graph_base.declared.line.Kind.TheVariants as kind;
+ghost use Rattle.graph_base.specs.Graphs.{task_at, phaser_at};
+ghost use Rattle.graph_base.specs.declared.line.Kind.TheVariants as kind;
 ghost use Rattle.stream_tasks.specs.Deals.{HasOneOp};
 ghost use Rattle.stream_tasks.specs.Tasks.{IsWhole, SignalsBlocks, sends_room};
 ghost use Rattle.graph_runs.specs.NextBlocks.{until_allows};
@@ -15,11 +15,11 @@ use crate::gate::Gate;
 use crate::keep::every_of;
 use crate::opening::founders::registration_of;
 use crate::task_state::TaskState;
-use graph_runs::graph_base::Kind;
-use graph_runs::phase_base::Op;
+use graph_base::Kind;
 use graph_runs::{input_of, kind_of, output_of, until_of};
+use phase_base::Op;
 use std::alloc::{AllocError, Global};
-use stream_eval::stream_lists::Job;
+use stream_lists::Job;
 use stream_members::Places;
 
 /// How many steps a task makes in one event of its own accord, at most.

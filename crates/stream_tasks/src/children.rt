@@ -1,6 +1,6 @@
 //! The children that a task registers between two steps.
 ghost use Rattle.std.specs.Prelude.{◌≡◌, ◌<◌, ◌≤◌, ℕ, length, None, true, false, IfSome};
-ghost use Rattle.stream_eval.specs.stream_lists.Jobs.{Job as JobValue};
+ghost use Rattle.stream_lists.specs.Jobs.{Job as JobValue};
 ghost use Rattle.stream_members.specs.Members.{Spot};
 ghost use Rattle.graph_runs.specs.Nexts.{registrations_at};
 ghost use Rattle.stream_tasks.specs.Children.{IsPlaceOn, HasChildRoom, HasKept, IsNextOn, IsNextNow};
@@ -11,9 +11,9 @@ use crate::child::Child;
 use crate::hold::Hold;
 use crate::task_state::TaskState;
 use crate::went::Went;
+use graph_base::Registration;
 use graph_runs::Owed;
-use graph_runs::graph_base::Registration;
-use stream_eval::stream_lists::Job;
+use stream_lists::Job;
 use stream_members::AnyMember;
 
 impl<'a> TaskState<'a> {

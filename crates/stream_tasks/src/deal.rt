@@ -1,11 +1,11 @@
 //! What a splitter takes by blocks, and deals to its outputs.
 ghost use Rattle.std.specs.Prelude.{◌≡◌, ◌≢◌, ◌%◌, ◌<◌, ◌≤◌, ℕ, [], false, length, vec_capacity, IfOk, OnErr, OnOk};
-ghost use Rattle.stream_eval.specs.stream_lists.Lists.{every};
+ghost use Rattle.stream_lists.specs.Lists.{every};
 ghost use Rattle.stream_members.specs.Members.{Spot};
 ghost use Rattle.stream_members.specs.AnyMembers.{room_for};
-ghost use Rattle.graph_runs.specs.phase_base.declared.operation.Op.{Op};
-ghost use Rattle.graph_runs.specs.graph_base.Graphs.{task_at};
-ghost use Rattle.graph_runs.specs.graph_base.declared.line.Kind.TheVariants as kind;
+ghost use Rattle.phase_base.specs.declared.operation.Op.{Op};
+ghost use Rattle.graph_base.specs.Graphs.{task_at};
+ghost use Rattle.graph_base.specs.declared.line.Kind.TheVariants as kind;
 ghost use Rattle.stream_tasks.specs.Children.{MayStep};
 ghost use Rattle.stream_tasks.specs.Deals.{DealtThen, HasDealRoom, HasListPlaces, next_output_of};
 ghost use Rattle.stream_tasks.specs.Holds.{HoldGoesOn, HasSeenOthers, MemberHasSignalled};
@@ -17,11 +17,11 @@ use crate::hold::{Given, Hold};
 use crate::task_state::TaskState;
 use crate::turn::{all_fit, enter, get_into, keep_all};
 use crate::went::Went;
-use graph_runs::graph_base::ENDS_MAX;
-use graph_runs::phase_accum::Single;
+use graph_base::ENDS_MAX;
 use graph_runs::{input_of, output_of};
+use phase_accum::Single;
 use std::alloc::{AllocError, Global};
-use stream_eval::stream_lists::Job;
+use stream_lists::Job;
 use stream_members::Places;
 
 /// What a splitter has taken by one wait, and deals to its outputs in turn.

@@ -6,7 +6,7 @@ ghost use Rattle.stream_tasks.specs.declared.child.Child.{Child as ChildValue};
 
 use crate::task_state::TaskState;
 use std::mem;
-use stream_eval::stream_lists::Job;
+use stream_lists::Job;
 
 impl<'a> TaskState<'a> {
     /// Whether the child at place `i` among its children is task number `task`, and has all its

@@ -1,18 +1,19 @@
 //! What a task holds of a phaser.
 ghost use Rattle.std.specs.Prelude.{◌≡◌, ◌≢◌, ◌↔◌, [], ◌∷◌, length, Err, IfOk, IsOk, OnErr, OnOk};
 ghost use Rattle.stream_tasks.specs.Holds.{HoldGoesOn, HasSendPlaces, MemberHasSignalled, WaitGave, HasSeenOthers, IsAtMost, HoldLeaves};
-ghost use Rattle.graph_runs.specs.phase_base.declared.operation.Op.{Op};
+ghost use Rattle.phase_base.specs.declared.operation.Op.{Op};
 ghost use Rattle.stream_members.specs.AnyMembers.{room_for};
 ghost use Rattle.stream_tasks.specs.Registering.{AddsTo, AddsNowTo};
 ghost use Rattle.stream_tasks.specs.Standings.{entry_held};
 
 use crate::held::Held;
-use graph_runs::phase_accum::{Outcome, Single};
-use graph_runs::phase_base::{Entry, Mode};
+use phase_accum::{Outcome, Single};
+use phase_base::{Entry, Mode};
+use phase_core::{GotBlock, RegisterRefusal, SignalRefusal, WaitRefusal};
+use phase_history::laws;
+use phase_shared::Tried;
 use std::mem;
 use std::sync::Wait;
-use stream_members::phase_core::{GotBlock, RegisterRefusal, SignalRefusal, WaitRefusal, laws};
-use stream_members::phase_shared::Tried;
 use stream_members::{AnyLeft, AnyMember, Places, PutRefusal};
 
 /// What a task holds of a phaser: its registration, until it leaves.
@@ -145,7 +146,7 @@ impl<'a> Hold<'a> {
         }
     }
 
-    /// HoldLeaves.
+    /// Leaves the phaser, or stays registered there where another's call is under way.
     pub fn leave(&mut self) -> Result<AnyLeft<'a>, Held>
         ensures ok { IfOk result (HoldLeaves self.old self.new) }
         ensures err { OnErr result (self.new ≡ self.old) }

@@ -1,8 +1,8 @@
 //! What a joiner takes one by one where it takes no block, and puts by blocks.
 ghost use Rattle.std.specs.Prelude.{◌≡◌, ◌≢◌, ◌<◌, ℕ, [], false, true, length};
 ghost use Rattle.graph_runs.specs.Nexts.{is_cut};
-ghost use Rattle.graph_runs.specs.graph_base.Graphs.{task_at};
-ghost use Rattle.graph_runs.specs.graph_base.declared.line.Kind.TheVariants as kind;
+ghost use Rattle.graph_base.specs.Graphs.{task_at};
+ghost use Rattle.graph_base.specs.declared.line.Kind.TheVariants as kind;
 ghost use Rattle.stream_members.specs.Members.{Spot};
 ghost use Rattle.stream_tasks.specs.Children.{MayStep};
 ghost use Rattle.stream_tasks.specs.Joiners.{MayTakeNext};
@@ -14,9 +14,9 @@ use crate::hold::Given;
 use crate::task_state::TaskState;
 use crate::turn::{enter, get_into, is_too_big};
 use crate::went::Went;
-use graph_runs::graph_base::Kind;
+use graph_base::Kind;
 use graph_runs::{first_input_of, input_of, is_cut, kind_of, number_taken, output_of, until_of};
-use stream_eval::stream_lists::Job;
+use stream_lists::Job;
 
 impl<'a> TaskState<'a> {
     /// Goes on where it has made something: a joiner takes one value more, where it may; else what

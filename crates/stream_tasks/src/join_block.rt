@@ -1,8 +1,8 @@
 //! What a joiner takes by blocks: a share of each input by one wait, all in one turn.
 ghost use Rattle.std.specs.Prelude.{◌≡◌, ◌*◌, ◌<◌, ◌≤◌, ℕ, [], length, true, vec_capacity};
-ghost use Rattle.graph_runs.specs.graph_base.Graphs.{task_at};
-ghost use Rattle.graph_runs.specs.graph_base.declared.line.Kind.TheVariants as kind;
-ghost use Rattle.stream_eval.specs.stream_lists.Lists.{in_turn};
+ghost use Rattle.graph_base.specs.Graphs.{task_at};
+ghost use Rattle.graph_base.specs.declared.line.Kind.TheVariants as kind;
+ghost use Rattle.stream_lists.specs.Lists.{in_turn};
 ghost use Rattle.stream_members.specs.Members.{Spot};
 ghost use Rattle.stream_tasks.specs.Holds.{HoldGoesOn, MemberHasWaited};
 ghost use Rattle.stream_tasks.specs.Joiners.{HaveGiven, MayTakeNext, MayTakeShares, shares_in};
@@ -15,11 +15,11 @@ use crate::hold::{Given, Hold};
 use crate::task_state::TaskState;
 use crate::turn::all_fit;
 use crate::went::Went;
-use graph_runs::graph_base::ENDS_MAX;
-use graph_runs::phase_accum::Outcome;
+use graph_base::ENDS_MAX;
 use graph_runs::{first_input_of, input_of, number_taken, output_of, until_of};
+use phase_accum::Outcome;
 use std::thread;
-use stream_eval::stream_lists::Job;
+use stream_lists::Job;
 
 impl<'a> TaskState<'a> {
     /// How many values a block of a joiner takes from each input, as far as is known without a

@@ -1,8 +1,8 @@
 //! What a decimator takes by blocks, and keeps of them for its output.
 ghost use Rattle.std.specs.Prelude.{◌≡◌, ◌+◌, ◌-◌, ◌%◌, ◌<◌, ◌≤◌, [], length, map, vec_capacity};
-ghost use Rattle.graph_runs.specs.graph_base.Graphs.{task_at};
-ghost use Rattle.graph_runs.specs.graph_base.declared.line.Kind.TheVariants as kind;
-ghost use Rattle.stream_eval.specs.stream_lists.Lists.{every, number};
+ghost use Rattle.graph_base.specs.Graphs.{task_at};
+ghost use Rattle.graph_base.specs.declared.line.Kind.TheVariants as kind;
+ghost use Rattle.stream_lists.specs.Lists.{every, number};
 ghost use Rattle.stream_tasks.specs.Children.{MayStep};
 ghost use Rattle.stream_tasks.specs.Tasks.{IsWhole, KeepsTask};
 
@@ -11,10 +11,10 @@ use crate::hold::Given;
 use crate::task_state::TaskState;
 use crate::turn::{all_fit, enter, get_into};
 use crate::went::Went;
-use graph_runs::graph_base::EVERY_MAX;
-use graph_runs::phase_accum::Outcome;
+use graph_base::EVERY_MAX;
 use graph_runs::{input_of, number_taken, output_of};
-use stream_eval::stream_lists::Job;
+use phase_accum::Outcome;
+use stream_lists::Job;
 
 impl<'a> TaskState<'a> {
     /// Begins steps of a decimator, by a wait for what it keeps some of.

@@ -5,7 +5,7 @@ use std::marker::Brand;
 /// Which run a task belongs to: its job, and which phaser each of the graph's phasers is.
 pub trait Run {
     ghost use Rattle.std.specs.Prelude.{ℕ};
-    ghost use Rattle.stream_eval.specs.stream_lists.Jobs.{Job};
+    ghost use Rattle.stream_lists.specs.Jobs.{Job};
     ghost use Rattle.stream_members.specs.Members.{Spot};
 
     ghost job: { Job };

@@ -4,19 +4,19 @@ ghost use Rattle.stream_members.specs.Members.{Spot};
 ghost use Rattle.stream_tasks.specs.Openings.{IsRootMember};
 ghost use Rattle.stream_tasks.specs.Seeds.{seed_state, IsSeed, HasRegistrationRoom, HasReceivedFirst, AreChildrenBelow};
 ghost use Rattle.stream_tasks.specs.Children.{TellsChild};
-ghost use Rattle.stream_eval.specs.stream_lists.Jobs.{Job as JobValue};
+ghost use Rattle.stream_lists.specs.Jobs.{Job as JobValue};
 
 use crate::blocks::{dealt_most, own_steps, places_for};
 use crate::child::Child;
 use crate::deal::Deal;
 use crate::hold::Hold;
 use crate::task_state::TaskState;
-use graph_runs::phase_accum::Outcome;
 use graph_runs::{Owed, first_filter, parent_of};
+use phase_accum::Outcome;
 use smallvec::SmallVec;
 use std::alloc::{AllocError, Global};
 use std::sync::Wait;
-use stream_eval::stream_lists::Job;
+use stream_lists::Job;
 use stream_members::AnyMember;
 
 /// A task before it is registered on all phasers of its line, with all the memory that it will

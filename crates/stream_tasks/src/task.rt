@@ -2,7 +2,7 @@
 ghost use Rattle.std.specs.Prelude.{◌≡◌, length, None, IfErr, IfOk, OnOk};
 ghost use Rattle.stream_tasks.specs.Standings.{PutsStands};
 ghost use Rattle.stream_tasks.specs.TaskLefts.{IsTaskLeft};
-ghost use Rattle.graph_runs.specs.graph_base.Graphs.{task_at};
+ghost use Rattle.graph_base.specs.Graphs.{task_at};
 ghost use Rattle.graph_runs.specs.Nexts.{registrations_at};
 ghost use Rattle.stream_tasks.specs.Seeds.{seed_state, IsSeed, HasRegistrationRoom, HasReceivedFirst};
 
@@ -19,7 +19,7 @@ use graph_runs::ends::first_calls;
 use std::alloc::AllocError;
 use std::marker::{Model, PhantomData};
 use std::sync::Wait;
-use stream_eval::stream_lists::{Job, Stand};
+use stream_lists::{Job, Stand};
 
 /// A task of a run with its registrations: whoever has it makes its next event.
 ///

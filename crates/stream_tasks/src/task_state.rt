@@ -8,12 +8,12 @@ use crate::child::Child;
 use crate::deal::Deal;
 use crate::ending::task_left::{TaskKnowledge, TaskLeft};
 use crate::hold::Hold;
-use graph_runs::phase_accum::Outcome;
 use graph_runs::{Owed, first_input_of};
+use phase_accum::Outcome;
 use smallvec::SmallVec;
 use std::sync::Wait;
-use stream_eval::stream_filters::Fir;
-use stream_eval::stream_lists::{End, Job};
+use stream_filters::Fir;
+use stream_lists::{End, Job};
 use stream_members::{AnyLeft, Places};
 
 /// How far a task has come, with its registrations.

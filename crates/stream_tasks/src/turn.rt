@@ -1,12 +1,12 @@
 //! One event of a task.
 ghost use Rattle.std.specs.Prelude.{◌≡◌, ◌≢◌, ◌+◌, ◌<◌, ◌≤◌, ℕ, ℤ, List, [], ◌++◌, Ok, true, false, length, map, take, vec_len, vec_capacity, IfOk, IfSome};
 ghost use Rattle.std.specs.List.{All};
-ghost use Rattle.graph_runs.specs.graph_base.Graphs.{task_at};
-ghost use Rattle.graph_runs.specs.graph_base.declared.line.Kind.TheVariants as kind;
-ghost use Rattle.stream_eval.specs.stream_filters.Range.{ranged};
-ghost use Rattle.stream_eval.specs.stream_lists.Jobs.{Job as JobValue};
-ghost use Rattle.stream_eval.specs.stream_lists.Lists.{number};
-ghost use Rattle.stream_eval.specs.stream_lists.Ranges.{is_too_big};
+ghost use Rattle.graph_base.specs.Graphs.{task_at};
+ghost use Rattle.graph_base.specs.declared.line.Kind.TheVariants as kind;
+ghost use Rattle.stream_filters.specs.Range.{ranged};
+ghost use Rattle.stream_lists.specs.Jobs.{Job as JobValue};
+ghost use Rattle.stream_lists.specs.Lists.{number};
+ghost use Rattle.stream_lists.specs.Ranges.{is_too_big};
 ghost use Rattle.stream_members.specs.Members.{Spot};
 ghost use Rattle.graph_runs.specs.declared.owed.Owed.TheVariants.{Value, Exchange};
 ghost use Rattle.graph_runs.specs.Moves.{IsBlock};
@@ -21,14 +21,14 @@ use crate::held::Held;
 use crate::hold::{Given, Hold};
 use crate::task_state::TaskState;
 use crate::went::Went;
-use graph_runs::graph_base::Kind;
-use graph_runs::phase_accum::Outcome;
+use graph_base::Kind;
 use graph_runs::{
     Owed, filtered_all, first_input_of, input_of, is_cut, kind_of, number_taken, output_of,
     owed_after_exchange, owed_after_signal, owed_after_wait, until_of,
 };
-use stream_eval::stream_filters::Fir;
-use stream_eval::stream_lists::Job;
+use phase_accum::Outcome;
+use stream_filters::Fir;
+use stream_lists::Job;
 
 /// How many numbers a filter is given at once.
 const AT_ONCE: usize = 16;

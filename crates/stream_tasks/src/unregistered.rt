@@ -8,7 +8,7 @@ use crate::task_state::TaskState;
 use std::alloc::{AllocError, Global};
 use std::marker::{Model, PhantomData};
 use std::sync::Wait;
-use stream_eval::stream_lists::Job;
+use stream_lists::Job;
 
 /// A task of a run before its parent has registered it, with all the memory that it will need, but
 /// for what a sink takes. In contracts it is its number.

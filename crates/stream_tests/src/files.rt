@@ -1,10 +1,10 @@
 //! Samples in files that are held in memory.
 
-use graph_show::graph_lang::{OneThread, SampleFault, read_sample_file};
-use graph_show::watched_io::{DiskFiles, FileFault, Files, IoFault};
+use graph_lang::{OneThread, SampleFault, read_sample_file};
 use std::alloc::Global;
 use std::fs;
 use std::test::Fail;
+use watched_io::{DiskFiles, FileFault, Files, IoFault};
 
 /// Two files, of which one has samples, and no other.
 #[derive(Drop)]
@@ -25,7 +25,7 @@ impl Files for TwoFiles {
 }
 
 /// Names of files, each with its samples or its fault.
-const NAMES: [(&str, Result<&[i64], SampleFault>); 3] = [
+static NAMES: [(&str, Result<&[i64], SampleFault>); 3] = [
     ("ramp.csv", Ok(&[1, -2, 3])),
     ("notes.csv", Err(SampleFault::BadSample { number: 3 })),
     ("other.csv", Err(SampleFault::ReadFault)),

@@ -1,7 +1,7 @@
 //! Filters, splitters, joiners and peers step by step.
 use std::alloc::AllocError;
 use std::test::*;
-use stream_job::stream_filters::{
+use stream_filters::{
     FilterFault, Fir, FirFault, Form, Join, Peer, Split, TooBigValue, VALUE_MAX, VALUE_MIN,
     filter_list,
 };
@@ -44,7 +44,7 @@ struct Case {
     steps: &'static [Steps],
 }
 
-const CASES: [Case; 10] = [
+static CASES: [Case; 11] = [
     Case {
         name: "rounds down and not towards zero",
         taps: &[1, 2, 1],
@@ -125,6 +125,16 @@ const CASES: [Case; 10] = [
         ],
     },
     Case {
+        name: "a delay weighs each tap as many samples before",
+        taps: &[1, 10],
+        form: (0, 0, 1),
+        steps: &[
+            (1, 1, Answer::Value(0)),
+            (1, 2, Answer::Value(1)),
+            (1, 3, Answer::Value(12)),
+        ],
+    },
+    Case {
         name: "the longest delay answers zeros first",
         taps: &[1],
         form: (0, 0, 65_536),
@@ -193,7 +203,7 @@ fn peers_and_turns(rt: HostRuntime) -> Result<(), Fail> {
 }
 
 /// Taps and a form that no filter has.
-const BAD: [(&str, &[i64], Numbers); 6] = [
+static BAD: [(&str, &[i64], Numbers); 6] = [
     ("no taps", &[], (0, 0, 0)),
     ("too many taps", &[0; 65], (0, 0, 0)),
     ("a tap past its limit", &[2_147_483_648], (0, 0, 0)),

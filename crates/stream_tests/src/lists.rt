@@ -1,7 +1,7 @@
 //! What a job tells of its tasks: their inputs and outputs by phaser, what their steps take, and
 //! the samples of a source. What is expected was worked out by hand.
-use graph_show::graph_lang::{read_graph, samples_of};
-use graph_show::phase_accum::Outcome;
+use graph_lang::{read_graph, samples_of};
+use phase_accum::Outcome;
 use std::alloc::{AllocError, Global};
 use std::test::Fail;
 use stream_job::{Job, input_number, number_of, output_number, taken_count};
@@ -75,7 +75,7 @@ struct Case {
     facts: &'static [Fact],
 }
 
-const CASES: [Case; 3] = [
+static CASES: [Case; 3] = [
     Case {
         name: "a peer signals its second input first",
         facts: &[

@@ -1,6 +1,6 @@
 //! What the tasks of a graph are registered for.
 
-use graph_show::graph_lang::{Graph, Mode, Registration, read_graph};
+use graph_lang::{Graph, Mode, Registration, read_graph};
 use std::alloc::Global;
 use std::test::Fail;
 
@@ -56,7 +56,7 @@ struct Case {
     tasks: &'static [&'static [End]],
 }
 
-const CASES: [Case; 2] = [
+static CASES: [Case; 2] = [
     Case {
         name: "each kind has its registrations",
         text: "phaser A sum 1\nphaser B sum 1\nphaser C sum 1\nphaser D sum 1\n\

@@ -1,11 +1,10 @@
 //! Samples that a reader gives in pieces, and readers that fail.
 
-use graph_show::graph_lang::{SampleFault, read_samples};
-use graph_show::watched_io::{FileFault, Watched, read_text};
+use graph_lang::{SampleFault, read_samples};
 use std::alloc::Global;
-use std::io;
-use std::io::Read;
+use std::io::{self, Read};
 use std::test::Fail;
+use watched_io::{FileFault, Watched, read_text};
 
 /// Gives a text, `size` bytes a read at most, and fails at the read of the number `fails_at`.
 #[derive(Drop)]
@@ -39,7 +38,7 @@ fn pieces_of(rest: &[u8], size: usize) -> Watched<Pieces<'_>> {
 }
 
 /// Texts, each with its samples, or with the number of its first bad record.
-const TEXTS: [(&str, Result<&[i64], usize>); 4] = [
+static TEXTS: [(&str, Result<&[i64], usize>); 4] = [
     ("", Ok(&[])),
     ("1\r\n-2\r\n\r\n3", Ok(&[1, -2, 3])),
     ("\"5\"6\n\"7", Ok(&[56, 7])),

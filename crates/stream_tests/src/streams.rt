@@ -1,8 +1,7 @@
 //! What no clause says: how often a reader or a writer is called, and that what is sent is flushed.
-use graph_show::watched_io::{ReadFailed, Watched, WriteFailed};
-use std::io;
-use std::io::{ErrorKind, Read, Write};
+use std::io::{self, ErrorKind, Read, Write};
 use std::test::Fail;
+use watched_io::{ReadFailed, Watched, WriteFailed};
 
 /// Fails at its first read, and gives a byte at each later one.
 #[derive(Drop)]

@@ -4,13 +4,13 @@ use Rattle.std.specs.Prelude.{Ok, if◌then◌else◌, slice_index_or}
 use Rattle.std.specs.List.{All}
 use Rattle.std.proofs.lemmas.Bool.{ltb-true, ltb-false}
 use Rattle.std.proofs.lemmas.List.{get_or_past}
-use Rattle.stream_tasks.specs.graph_base.Graphs.{Task, no_task, task_at}
-use Rattle.stream_tasks.specs.stream_eval.Results.{sink_values}
-use Rattle.stream_tasks.specs.stream_eval.declared.whole.Lines.{Lines}
-use Rattle.stream_tasks.specs.stream_lists.Jobs.{Job, with_starts}
-use Rattle.stream_tasks.specs.stream_lists.Lists.{lines_of, start_in}
-use Rattle.stream_tasks.specs.stream_lists.Ranges.{Fits, answer_of}
-use Rattle.stream_tasks.specs.stream_lists.Spans.{span_in}
+use Rattle.graph_base.specs.Graphs.{Task, no_task, task_at}
+use Rattle.stream_eval.specs.Results.{sink_values}
+use Rattle.stream_eval.specs.declared.whole.Lines.{Lines}
+use Rattle.stream_lists.specs.Jobs.{Job, with_starts}
+use Rattle.stream_lists.specs.Lists.{lines_of, start_in}
+use Rattle.stream_lists.specs.Ranges.{Fits, answer_of}
+use Rattle.stream_lists.specs.Spans.{span_in}
 use Rattle.stream_tasks.specs.RunAnswers.{AreLinesOf}
 use Rattle.stream_workers.proofs.StartsInTime.{first_length}
 

@@ -4,10 +4,10 @@ use Rattle.std.specs.Prelude.{take, Option, IfSome}
 use Rattle.std.proofs.Math.Seq.{take-append_seam}
 use Rattle.std.proofs.lemmas.List.{length-reverse, get_or-reverse}
 use Rattle.std.proofs.lemmas.Option.{slice_get_within, slice_get-get_or, get_or_from_slice_get}
-use Rattle.stream_tasks.specs.stream_members.Members.{Spot}
+use Rattle.stream_members.specs.Members.{Spot}
 use Rattle.stream_tasks.specs.declared.ending.task_left.TaskLeft.{TaskLeft}
 use Rattle.stream_tasks.specs.TaskLefts.{IsTaskLeft}
-use Rattle.stream_tasks.specs.stream_lists.Jobs.{Job}
+use Rattle.stream_lists.specs.Jobs.{Job}
 use Rattle.stream_workers.specs.TasksLeft.{AreTasksLeft}
 
 -- one that has left, if there is one, stands in an option

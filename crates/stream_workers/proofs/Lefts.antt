@@ -3,11 +3,11 @@ use Rattle.std.proofs.Common.{◌≡◌, ℕ, zero, suc, ◌<◌, List, [], ◌�
 use Rattle.std.specs.Global.{Global}
 use Rattle.std.specs.Prelude.{Vec, slice_get, get_or}
 use Rattle.std.proofs.lemmas.Option.{same_Some}
-use Rattle.stream_tasks.specs.stream_lists.Jobs.{Job}
-use Rattle.stream_tasks.specs.stream_members.Members.{Spot}
-use Rattle.stream_tasks.specs.stream_members.AnyMembers.{left_in}
-use Rattle.stream_tasks.specs.stream_members.declared.any_left.AnyLeft.{AnyLeft}
-use Rattle.stream_tasks.specs.graph_runs.TaskEnds.{HasFoundedAndLeft}
+use Rattle.stream_lists.specs.Jobs.{Job}
+use Rattle.stream_members.specs.Members.{Spot}
+use Rattle.stream_members.specs.AnyMembers.{left_in}
+use Rattle.stream_members.specs.declared.any_left.AnyLeft.{AnyLeft}
+use Rattle.graph_runs.specs.TaskEnds.{HasFoundedAndLeft}
 use Rattle.stream_tasks.specs.Openings.{HaveFoundersLeft}
 use Rattle.stream_tasks.specs.declared.opening.founder.FounderLeft.{FounderLeft}
 use Rattle.stream_tasks.specs.TaskLefts.{AreFoundersLeft}

@@ -4,19 +4,19 @@ use Rattle.std.specs.Prelude.{Option, max, nat_le, if◌then◌else◌}
 use native.Mathlib.Nat.{zero-max}
 use Rattle.std.proofs.lemmas.Bool.{ltb-true, ltb-false, and_parts}
 use Rattle.std.proofs.lemmas.Bool.Decides.{nat_tests}
-use Rattle.stream_tasks.specs.graph_base.Graphs.{Task, task_at}
-use Rattle.stream_tasks.specs.graph_base.TaskLines.{HasEnds, IsGraph, IsTaskLine, IsParent, has_children}
-use Rattle.stream_tasks.specs.graph_base.declared.line.Kind.{Kind}
-use Rattle.stream_tasks.specs.graph_base.declared.line.Kind.TheVariants.{Source, Fir, Split, Decimate, Join, Peer, Sink}
-use Rattle.stream_tasks.specs.graph_base.declared.line.Parent.{Parent}
-use Rattle.stream_tasks.specs.stream_lists.Jobs.{Job, samples_at, start_at}
-use Rattle.stream_tasks.specs.stream_lists.Lists.{start_in}
-use Rattle.stream_tasks.specs.stream_lists.Spans.{offset_of, span_at, span_in, spans_of, lengths_of, enough_for, values_from}
-use Rattle.stream_tasks.specs.stream_lists.declared.span.Span.{Span}
-use Rattle.stream_tasks.proofs.stream_eval_lemmas.stream_lists_lemmas.LengthsAbove.{first_value}
-use Rattle.stream_tasks.proofs.stream_eval_lemmas.stream_lists_lemmas.Ordered.{parents_wait}
-use Rattle.stream_tasks.proofs.stream_eval_lemmas.stream_lists_lemmas.ListLengths.{steps_within}
-use Rattle.stream_tasks.proofs.stream_eval_lemmas.stream_lists_lemmas.SpansAbove.{parent-is, spans_all}
+use Rattle.graph_base.specs.Graphs.{Task, task_at}
+use Rattle.graph_base.specs.TaskLines.{HasEnds, IsGraph, IsTaskLine, IsParent, has_children}
+use Rattle.graph_base.specs.declared.line.Kind.{Kind}
+use Rattle.graph_base.specs.declared.line.Kind.TheVariants.{Source, Fir, Split, Decimate, Join, Peer, Sink}
+use Rattle.graph_base.specs.declared.line.Parent.{Parent}
+use Rattle.stream_lists.specs.Jobs.{Job, samples_at, start_at}
+use Rattle.stream_lists.specs.Lists.{start_in}
+use Rattle.stream_lists.specs.Spans.{offset_of, span_at, span_in, spans_of, lengths_of, enough_for, values_from}
+use Rattle.stream_lists.specs.declared.span.Span.{Span}
+use Rattle.stream_lists.proofs.LengthsAbove.{first_value}
+use Rattle.stream_lists.proofs.Ordered.{parents_wait}
+use Rattle.stream_lists.proofs.ListLengths.{steps_within}
+use Rattle.stream_lists.proofs.SpansAbove.{parent-is, spans_all}
 
 -- the kinds that wait for one phaser and may have children
 abbrev has_one : Kind → Bool

@@ -1,7 +1,7 @@
 -- What the tasks of a run leave behind.
 use Rattle.std.specs.Prelude.{ℕ, List, Option}
-use Rattle.stream_tasks.specs.stream_lists.Jobs.{Job}
-use Rattle.stream_tasks.specs.stream_members.Members.{Spot}
+use Rattle.stream_lists.specs.Jobs.{Job}
+use Rattle.stream_members.specs.Members.{Spot}
 use Rattle.stream_tasks.specs.declared.ending.task_left.TaskLeft.{TaskLeft}
 use Rattle.stream_tasks.specs.Joinings.{IsPlaced}
 use Rattle.stream_tasks.specs.TaskLefts.{IsTaskLeft}

@@ -10,8 +10,8 @@ use crate::watch::Watch;
 use std::alloc::Global;
 use std::sync::Wait;
 use std::thread::Threads;
-use stream_tasks::stream_lists::Job;
-use stream_tasks::stream_members::{AnyPhaser, AnyReg};
+use stream_lists::Job;
+use stream_members::{AnyPhaser, AnyReg};
 use stream_tasks::{FounderLeft, Run, TaskLeft, dismiss_founders, found, leave_all};
 use worker_pool::Fault;
 

@@ -8,7 +8,7 @@ use crate::watch::Watch;
 use std::alloc::Global;
 use std::sync::Wait;
 use std::thread::Threads;
-use stream_tasks::stream_lists::Stand;
+use stream_lists::Stand;
 use stream_tasks::{Run, TaskLeft};
 use worker_pool::{Fault, Pool};
 

@@ -5,9 +5,9 @@ ghost use Rattle.stream_tasks.specs.RunAnswers.{AreLinesOf};
 ghost use Rattle.stream_workers.specs.TasksLeft.{AreTasksLeft};
 
 use std::alloc::{AllocError, Global};
-use stream_tasks::stream_eval::Lines;
-use stream_tasks::stream_lists::Job;
-use stream_tasks::stream_members::AnyLeft;
+use stream_eval::Lines;
+use stream_lists::Job;
+use stream_members::AnyLeft;
 use stream_tasks::{FounderLeft, Run, TaskLeft, finish};
 
 /// What the founders have seen, and the numbers that they gave.

@@ -1,10 +1,10 @@
 //! Laws of what a run tells. The contract of each function is the law.
 ghost use Rattle.std.specs.Prelude.{◌≡◌, ◌≤◌, ◌<◌, ℕ, [], Some, length, get_or};
-ghost use Rattle.stream_tasks.specs.graph_base.Graphs.{task_at};
-ghost use Rattle.stream_tasks.specs.graph_base.TaskLines.{IsGraph};
-ghost use Rattle.stream_tasks.specs.stream_lists.Jobs.{Job};
-ghost use Rattle.stream_tasks.specs.stream_lists.Lists.{start_in};
-ghost use Rattle.stream_tasks.specs.stream_lists.Spans.{lengths_of};
+ghost use Rattle.graph_base.specs.Graphs.{task_at};
+ghost use Rattle.graph_base.specs.TaskLines.{IsGraph};
+ghost use Rattle.stream_lists.specs.Jobs.{Job};
+ghost use Rattle.stream_lists.specs.Lists.{start_in};
+ghost use Rattle.stream_lists.specs.Spans.{lengths_of};
 
 /// The least start of a sink that joins now, which is the one that `run` tells, is at most the
 /// length of its phaser's list: a phase of that list, or the one behind it.

@@ -27,10 +27,8 @@ mod stopped;
 mod watch;
 mod whole;
 
-pub use graph_commands;
 pub use graph_commands::write_lines;
-pub use stream_tasks::stream_lists::Stand;
-pub use stream_tasks::{Gate, Open, Went, phase_shared, stream_members};
+pub use stream_lists::Stand;
+pub use stream_tasks::{Gate, Open, Went};
 pub use watch::Watch;
 pub use whole::{RunFault, after_fault, run, run_watched};
-pub use worker_pool;

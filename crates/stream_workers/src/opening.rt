@@ -5,10 +5,10 @@ ghost use Rattle.stream_tasks.specs.Openings.{AreFounders};
 use crate::endings::dismiss_all;
 use crate::slot::{Slot, TaskSlot};
 use crate::watch::Watch;
+use graph_runs::parent_of;
 use std::alloc::{AllocError, Global};
 use std::sync::Wait;
-use stream_tasks::graph_runs::parent_of;
-use stream_tasks::stream_lists::Job;
+use stream_lists::Job;
 use stream_tasks::{Founder, Run, Task, Unregistered};
 use worker_pool::Pool;
 

@@ -6,7 +6,7 @@ use crate::watch::Watch;
 use std::alloc::AllocError;
 use std::mem;
 use std::sync::Wait;
-use stream_tasks::stream_lists::Stand;
+use stream_lists::Stand;
 use stream_tasks::{Run, Task, TaskLeft, Unregistered};
 use worker_pool::{Fault, Progress, Work};
 

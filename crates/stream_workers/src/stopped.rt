@@ -1,7 +1,7 @@
 //! Why a run came to no end.
 
 use std::alloc::Global;
-use stream_tasks::stream_lists::Stand;
+use stream_lists::Stand;
 use worker_pool::Fault;
 
 /// Why a run came to no end, and where its tasks stood then.

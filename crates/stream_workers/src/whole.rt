@@ -2,22 +2,22 @@
 ghost use Rattle.std.specs.Prelude.{◌≡◌, ℕ, Some, Err, IfOk};
 ghost use Rattle.stream_tasks.specs.Openings.{ArePhasers, AreFoundersFrom, spot_at};
 ghost use Rattle.stream_tasks.specs.RunAnswers.{AreLinesOf};
-ghost use Rattle.stream_tasks.specs.stream_lists.Ranges.{first_too_big};
-ghost use Rattle.stream_tasks.specs.graph_base.declared.place.Place.{Place as PlaceValue};
+ghost use Rattle.stream_lists.specs.Ranges.{first_too_big};
+ghost use Rattle.graph_base.specs.declared.place.Place.{Place as PlaceValue};
 
 use crate::behind::{Behind, run_on};
 use crate::finishing::finish_run;
 use crate::laws::starts_are_in_time;
 use crate::stopped::Stopped;
 use crate::watch::{Unwatched, Watch};
+use graph_base::Place;
 use std::alloc::Global;
 use std::marker::Brand;
 use std::sync::Wait;
 use std::thread::Threads;
-use stream_tasks::graph_base::Place;
-use stream_tasks::stream_eval::{EvalFault, Lines, eval};
-use stream_tasks::stream_lists::{Job, Stand};
-use stream_tasks::stream_members::{AnyPhaser, AnyReg};
+use stream_eval::{EvalFault, Lines, eval};
+use stream_lists::{Job, Stand};
+use stream_members::{AnyPhaser, AnyReg};
 use stream_tasks::{Gate, Open, Run, open_phasers};
 use thiserror::Error;
 use worker_pool::Fault;

@@ -1,23 +1,23 @@
 -- The worked calls: each answers what the definitions do.
 use Rattle.std.proofs.Common.{◌≡◌, ℕ, ℤ, true, false, eqb, ◌||◌, List, [], ◌∷◌, length, None, Ok, Err, pos, refl, sym, subst, ◌∙◌, arith}
 use Rattle.std.proofs.lemmas.Bool.{eqb-true}
-use Rattle.phase_received.specs.phase_base.Limits.{AreLimits}
-use Rattle.phase_received.specs.phase_accum.Parcels.{Parcel, StandsForSends}
-use Rattle.phase_received.specs.phase_accum.Sums.{sum_operation}
-use Rattle.phase_received.specs.phase_accum.Values.{sum_value}
-use Rattle.phase_received.specs.phase_history.declared.event.Event.TheVariants.{Dropped}
-use Rattle.phase_received.specs.phase_history.declared.got.GotBlock.TheVariants.{Values, Ended}
-use Rattle.phase_received.specs.phase_history.declared.refusal.SignalRefusal.TheVariants.{NoSignal}
-use Rattle.phase_received.specs.phase_history.declared.refusal.WaitRefusal.TheVariants.{NotYet}
-use Rattle.phase_received.specs.phase_history.Histories.{History}
-use Rattle.phase_received.specs.phase_history.Legal.{IsLegal}
-use Rattle.phase_received.specs.phase_history.Others.{OthersCame, events_of}
-use Rattle.phase_received.specs.phase_base.Lists.{is_in}
-use Rattle.phase_received.specs.phase_history.Replies.{signal_reply}
-use Rattle.phase_received.specs.phase_core.Blocks.{StandForLists}
-use Rattle.phase_received.specs.phase_shared.Calls.{Signals}
-use Rattle.phase_received.specs.phase_shared.Blocks.{SignalsBlock, WaitsBlock}
-use Rattle.phase_received.specs.phase_shared.Joins.{HasRegisteredNow}
+use Rattle.phase_base.specs.Limits.{AreLimits}
+use Rattle.phase_accum.specs.Parcels.{Parcel, StandsForSends}
+use Rattle.phase_accum.specs.Sums.{sum_operation}
+use Rattle.phase_accum.specs.Values.{sum_value}
+use Rattle.phase_history.specs.declared.event.Event.TheVariants.{Dropped}
+use Rattle.phase_history.specs.declared.got.GotBlock.TheVariants.{Values, Ended}
+use Rattle.phase_history.specs.declared.refusal.SignalRefusal.TheVariants.{NoSignal}
+use Rattle.phase_history.specs.declared.refusal.WaitRefusal.TheVariants.{NotYet}
+use Rattle.phase_history.specs.Histories.{History}
+use Rattle.phase_history.specs.Legal.{IsLegal}
+use Rattle.phase_history.specs.Others.{OthersCame, events_of}
+use Rattle.phase_base.specs.Lists.{is_in}
+use Rattle.phase_history.specs.Replies.{signal_reply}
+use Rattle.phase_core.specs.Blocks.{StandForLists}
+use Rattle.phase_shared.specs.Calls.{Signals}
+use Rattle.phase_shared.specs.Blocks.{SignalsBlock, WaitsBlock}
+use Rattle.phase_shared.specs.Joins.{HasRegisteredNow}
 use Rattle.thread_tests.specs.Worked.{worked_limits, two_sends, opened, begun, one_signal, one_block, both_got, all_left, late_waiter, waiter, late, three_places, two_written}
 
 -- ---- others' events

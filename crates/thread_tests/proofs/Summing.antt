@@ -8,9 +8,9 @@ use native.Mathlib.Decide.{ℕ_discrete}
 use lib.ListN.{get_elem?}
 use Rattle.atomic_table.proofs.Lists.{at_set, at_snoc, at_longer, set_here, set_else, set_again}
 use Rattle.thread_tests.specs.declared.counting.Tally.{Tally}
-use Rattle.phase_received.specs.turn_lock.Steps.{Takes, GivesBack, Looks, Forks, Merges, Busy}
+use Rattle.turn_lock.specs.Steps.{Takes, GivesBack, Looks, Forks, Merges, Busy}
 use Rattle.thread_tests.specs.Counting.{tally, total, counted, IsSumOf, IsCounted, Grabs, first_half, second_half, both}
-use Rattle.phase_received.proofs.turn_lock_lemmas.Keeping.{within}
+use Rattle.turn_lock.proofs.Keeping.{within}
 
 -- the total after a change of one view
 total-set : (f : Tally → ℕ) (l : List Tally) (i : ℕ) (v w : Tally) → get_elem? l i ≡ some v → total f (set l i w) + f v ≡ total f l + f w

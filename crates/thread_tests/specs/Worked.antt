@@ -1,12 +1,12 @@
 -- The histories of one phaser at which each law of blocks is used.
 use Rattle.std.specs.Prelude.{ℤ, List, [], ◌∷◌, None, pos}
-use Rattle.phase_received.specs.phase_base.Limits.{Limits, limits}
-use Rattle.phase_received.specs.phase_base.declared.entry.Entry.{Entry}
-use Rattle.phase_received.specs.phase_base.declared.mode.Mode.TheVariants.{Sig, Wait}
-use Rattle.phase_received.specs.phase_accum.declared.outcome.Outcome.{Outcome}
-use Rattle.phase_received.specs.phase_accum.declared.outcome.Outcome.TheVariants.{Value}
-use Rattle.phase_received.specs.phase_history.declared.event.Event.TheVariants.{Made, Registered, RegisteredNow, Signalled, Waited, Dropped}
-use Rattle.phase_received.specs.phase_history.Histories.{History, entry_at}
+use Rattle.phase_base.specs.Limits.{Limits, limits}
+use Rattle.phase_base.specs.declared.entry.Entry.{Entry}
+use Rattle.phase_base.specs.declared.mode.Mode.TheVariants.{Sig, Wait}
+use Rattle.phase_accum.specs.declared.outcome.Outcome.{Outcome}
+use Rattle.phase_accum.specs.declared.outcome.Outcome.TheVariants.{Value}
+use Rattle.phase_history.specs.declared.event.Event.TheVariants.{Made, Registered, RegisteredNow, Signalled, Waited, Dropped}
+use Rattle.phase_history.specs.Histories.{History, entry_at}
 
 -- a bound of 3, and 100 phases
 abbrev pub worked_limits : Limits

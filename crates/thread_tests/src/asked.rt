@@ -1,12 +1,12 @@
 //! Phases that others' turns make.
 ghost use Rattle.std.specs.Prelude.{◌≡◌, None, IfSome};
 ghost use denote.Param.Send.{IsSync};
-ghost use Rattle.phase_received.specs.phase_shared.Regs.{phaser_lock};
+ghost use Rattle.phase_shared.specs.Regs.{phaser_lock};
 
 use crate::calls::{SumPhaser, SumReg};
-use phase_received::phase_accum::Sum;
-use phase_received::phase_base::{Mode, Spec};
-use phase_received::phase_shared::{NoRule, Phaser, Reg, Unwoken};
+use phase_accum::Sum;
+use phase_base::{Mode, Spec};
+use phase_shared::{NoRule, Phaser, Reg, Unwoken};
 use std::sync::Wait;
 use std::sync::atomic::AtomicU64;
 use std::test::Fail;

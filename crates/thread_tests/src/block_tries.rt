@@ -4,10 +4,10 @@ use crate::calls::{
     block_got, block_signalled, block_waited, joined_now, left, lists_signalled, made, registered,
     signalled, waited,
 };
-use phase_received::phase_accum::Outcome;
-use phase_received::phase_base::{Mode, Spec};
-use phase_received::phase_core::{Got, GotBlock, RegisterRefusal, SignalRefusal, WaitRefusal};
-use phase_received::phase_shared::Tried;
+use phase_accum::Outcome;
+use phase_base::{Mode, Spec};
+use phase_core::{Got, GotBlock, RegisterRefusal, SignalRefusal, WaitRefusal};
+use phase_shared::Tried;
 use std::test::Fail;
 
 #[test]

@@ -1,11 +1,11 @@
 //! Blocks of phases from one thread to another.
 ghost use Rattle.std.specs.Prelude.{◌≡◌, None, IfSome, IfOk};
-ghost use Rattle.phase_received.specs.phase_shared.Regs.{phaser_lock};
+ghost use Rattle.phase_shared.specs.Regs.{phaser_lock};
 
-use phase_received::phase_accum::{Outcome, Pending, SendFault, Sum};
-use phase_received::phase_base::{Mode, Spec};
-use phase_received::phase_core::GotBlock;
-use phase_received::phase_shared::{NoRule, Phaser, Reg};
+use phase_accum::{Outcome, Pending, SendFault, Sum};
+use phase_base::{Mode, Spec};
+use phase_core::GotBlock;
+use phase_shared::{NoRule, Phaser, Reg};
 use std::alloc::{AllocError, Global};
 use std::process::Abort;
 use std::sync::Wait;

@@ -1,12 +1,12 @@
 //! Calls on a phaser of sums, with no more of what they promise than that a registration stays on
 //! its phaser, and that it holds nothing: a test that goes by these is proved at once.
 ghost use Rattle.std.specs.Prelude.{◌≡◌, IfOk, IfSome};
-ghost use Rattle.phase_received.specs.phase_shared.Regs.{phaser_lock};
+ghost use Rattle.phase_shared.specs.Regs.{phaser_lock};
 
-use phase_received::phase_accum::{Outcome, Pending, Single, Sum};
-use phase_received::phase_base::{Mode, Spec};
-use phase_received::phase_core::{Got, GotBlock, RegisterRefusal, SignalRefusal, WaitRefusal};
-use phase_received::phase_shared::{Next, NoRule, Phaser, Reg, Tried};
+use phase_accum::{Outcome, Pending, Single, Sum};
+use phase_base::{Mode, Spec};
+use phase_core::{Got, GotBlock, RegisterRefusal, SignalRefusal, WaitRefusal};
+use phase_shared::{Next, NoRule, Phaser, Reg, Tried};
 use std::alloc::Global;
 use std::sync::Wait;
 

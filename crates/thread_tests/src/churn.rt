@@ -1,13 +1,13 @@
 //! Registrations that join, leave and are replaced while others go on.
 ghost use Rattle.std.specs.Prelude.{◌≡◌, ◌<◌, [], None, IfSome};
 ghost use denote.Param.Send.{IsSync};
-ghost use Rattle.phase_received.specs.phase_shared.Regs.{phaser_lock};
+ghost use Rattle.phase_shared.specs.Regs.{phaser_lock};
 
 use crate::received::{SumReceipts, SumReceiver, joins, made_receiver, signals};
-use phase_received::phase_accum::{Outcome, Sum};
-use phase_received::phase_base::Mode;
-use phase_received::phase_core::Got;
-use phase_received::phase_shared::{NoRule, Phaser};
+use phase_accum::{Outcome, Sum};
+use phase_base::Mode;
+use phase_core::Got;
+use phase_shared::{NoRule, Phaser};
 use std::alloc::Global;
 use std::sync::Wait;
 use std::test::Fail;

@@ -1,12 +1,12 @@
 //! A phaser that is closed: what is complete is got, nobody waits, and all else goes on.
 ghost use Rattle.std.specs.Prelude.{◌≡◌, None, IfSome};
-ghost use Rattle.phase_received.specs.phase_shared.Regs.{phaser_lock};
+ghost use Rattle.phase_shared.specs.Regs.{phaser_lock};
 
 use crate::calls::{SumPhaser, SumReg, left, made_with_child, registered, signalled, waited};
-use phase_received::phase_accum::{Outcome, Pending, Sum};
-use phase_received::phase_base::Mode;
-use phase_received::phase_core::{Got, SignalRefusal, WaitRefusal};
-use phase_received::phase_shared::{Next, Stopped};
+use phase_accum::{Outcome, Pending, Sum};
+use phase_base::Mode;
+use phase_core::{Got, SignalRefusal, WaitRefusal};
+use phase_shared::{Next, Stopped};
 use std::sync::Wait;
 use std::test::Fail;
 use std::thread::{Threads, join_mut};

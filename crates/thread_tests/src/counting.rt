@@ -2,12 +2,12 @@
 ghost use Rattle.std.specs.Prelude.{◌≡◌, ◌+◌, ◌-◌, ◌*◌, ◌%◌, ◌^◌, ◌<◌, None, Some, IfOk, IfErr, IsOk};
 ghost use denote.Param.Send.{IsSync};
 ghost use Rattle.thread_tests.specs.Counting.{tally, IsCounted, Grabs, first_half, second_half, both};
-ghost use Rattle.phase_received.specs.turn_lock.Seats.{lock_name, IsSeatOf, IsTurnOf, IsSameSeat, seat_view, turn_value, turn_view};
+ghost use Rattle.turn_lock.specs.Seats.{lock_name, IsSeatOf, IsTurnOf, IsSameSeat, seat_view, turn_value, turn_view};
 
-use phase_received::turn_lock::{Join, Learns, Seat, Split, Tells, Turn, TurnLock, TurnRule};
 use std::alloc::{AllocError, Global};
 use std::sync::Wait;
 use std::thread::{Threads, join};
+use turn_lock::{Join, Learns, Seat, Split, Tells, Turn, TurnLock, TurnRule};
 
 /// What a seat of a counter knows. No value of it is made.
 pub struct Tally {

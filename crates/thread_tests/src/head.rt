@@ -1,10 +1,10 @@
 //! The program in the head of `phase_shared`, as a test.
 ghost use Rattle.std.specs.Prelude.{◌≡◌, None, IfSome};
-ghost use Rattle.phase_received.specs.phase_shared.Regs.{phaser_lock};
+ghost use Rattle.phase_shared.specs.Regs.{phaser_lock};
 
-use phase_received::phase_accum::Sum;
-use phase_received::phase_base::{Mode, Spec};
-use phase_received::phase_shared::{NoRule, Phaser, Reg};
+use phase_accum::Sum;
+use phase_base::{Mode, Spec};
+use phase_shared::{NoRule, Phaser, Reg};
 use std::sync::Wait;
 use std::test::Fail;
 use std::thread::{Threads, join_mut};

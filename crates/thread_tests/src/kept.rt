@@ -1,16 +1,16 @@
 //! Registrations and pasts that come out of a slot or a list, and where registrations stand.
 ghost use Rattle.std.specs.Prelude.{◌≡◌, ◌≢◌, ◌+◌, true, Some, None, IfSome};
 ghost use Rattle.std.specs.List.{All};
-ghost use Rattle.phase_received.specs.phase_base.Members.{entry_of};
-ghost use Rattle.phase_received.specs.phase_history.Histories.{members_of, entry_at};
-ghost use Rattle.phase_received.specs.phase_history.Legal.{IsLegal};
-ghost use Rattle.phase_received.specs.phase_base.Lists.{is_distinct};
-ghost use Rattle.phase_received.specs.phase_shared.Regs.{phaser_lock, phaser_limits};
+ghost use Rattle.phase_base.specs.Members.{entry_of};
+ghost use Rattle.phase_history.specs.Histories.{members_of, entry_at};
+ghost use Rattle.phase_history.specs.Legal.{IsLegal};
+ghost use Rattle.phase_base.specs.Lists.{is_distinct};
+ghost use Rattle.phase_shared.specs.Regs.{phaser_lock, phaser_limits};
 
 use crate::calls::{SumPhaser, SumReg, made};
-use phase_received::phase_accum::Sum;
-use phase_received::phase_base::Mode;
-use phase_received::phase_shared::{NoRule, Past, Phaser, Reg};
+use phase_accum::Sum;
+use phase_base::Mode;
+use phase_shared::{NoRule, Past, Phaser, Reg};
 use std::test::Fail;
 
 // The last past of a list. A look tells that its history is legal and has no number twice.

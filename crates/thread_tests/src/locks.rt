@@ -1,9 +1,7 @@
 //! A lock, one with words, and the example of a lock, the counter.
 use crate::counting::{count_by_threads, make_counter, read_sum, try_add_one};
-use phase_received::turn_lock::{
-    Join, Learns, Reads, Split, Tells, TurnLock, TurnRule, WordLock, WordRule,
-};
 use std::test::Fail;
+use turn_lock::{Join, Learns, Reads, Split, Tells, TurnLock, TurnRule, WordLock, WordRule};
 
 // A rule that allows everything.
 struct AnyValue;

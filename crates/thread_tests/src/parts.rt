@@ -1,14 +1,14 @@
 //! What calls add to a task's own part, by the laws of `phase_shared`.
 ghost use Rattle.std.specs.Prelude.{◌≡◌, ◌+◌, Some, None, IfOk, OnOk, true, length};
-ghost use Rattle.phase_received.specs.phase_history.Histories.{start_of, entry_at, has_dropped};
-ghost use Rattle.phase_received.specs.phase_history.Sent.{sent_by};
-ghost use Rattle.phase_received.specs.phase_shared.Regs.{phaser_lock};
+ghost use Rattle.phase_history.specs.Histories.{start_of, entry_at, has_dropped};
+ghost use Rattle.phase_history.specs.Sent.{sent_by};
+ghost use Rattle.phase_shared.specs.Regs.{phaser_lock};
 
 use crate::calls::{goes_on, made};
-use phase_received::phase_accum::Sum;
-use phase_received::phase_base::Mode;
-use phase_received::phase_core::{RegisterRefusal, SignalRefusal};
-use phase_received::phase_shared::{NoRule, Past, Phaser, Reg, laws};
+use phase_accum::Sum;
+use phase_base::Mode;
+use phase_core::{RegisterRefusal, SignalRefusal};
+use phase_shared::{NoRule, Past, Phaser, Reg, laws};
 use std::sync::Wait;
 use std::test::Fail;
 

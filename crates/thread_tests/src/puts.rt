@@ -1,14 +1,14 @@
 //! Values that are put by one call.
 ghost use Rattle.std.specs.Prelude.{◌≡◌, ◌≢◌, IfSome, OnOk, OnErr};
-ghost use Rattle.phase_received.specs.phase_accum.declared.outcome.TheConstants.{NO_VALUE};
-ghost use Rattle.phase_received.specs.phase_shared.Regs.{phaser_lock};
-ghost use Rattle.phase_received.specs.phase_shared.Puts.{IsFreeFor};
+ghost use Rattle.phase_accum.specs.declared.outcome.TheConstants.{NO_VALUE};
+ghost use Rattle.phase_shared.specs.Regs.{phaser_lock};
+ghost use Rattle.phase_shared.specs.Puts.{IsFreeFor};
 
 use crate::calls::{SumPhaser, SumReg, left, made_with_child, waited};
-use phase_received::phase_accum::{Accumulate, Outcome, Single};
-use phase_received::phase_base::Mode;
-use phase_received::phase_core::{Got, SignalRefusal, WaitRefusal};
-use phase_received::phase_shared::{NoRule, Phaser, Reg, Tried};
+use phase_accum::{Accumulate, Outcome, Single};
+use phase_base::Mode;
+use phase_core::{Got, SignalRefusal, WaitRefusal};
+use phase_shared::{NoRule, Phaser, Reg, Tried};
 use std::test::Fail;
 
 // Puts a value, and tells what was answered.

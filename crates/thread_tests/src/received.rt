@@ -1,13 +1,13 @@
 //! What registrations got, kept beside them: `phase_received`.
 ghost use Rattle.std.specs.Prelude.{◌≡◌, IfSome};
-ghost use Rattle.phase_received.specs.phase_shared.Regs.{phaser_lock};
+ghost use Rattle.phase_shared.specs.Regs.{phaser_lock};
 
 use crate::calls::SumPhaser;
-use phase_received::phase_accum::{Outcome, Sum};
-use phase_received::phase_base::{Mode, Spec};
-use phase_received::phase_core::Got;
-use phase_received::phase_shared::{NoRule, Phaser};
+use phase_accum::{Outcome, Sum};
+use phase_base::{Mode, Spec};
+use phase_core::Got;
 use phase_received::{Receipts, ReceiveFault, Receiver};
+use phase_shared::{NoRule, Phaser};
 use std::alloc::Global;
 use std::sync::Wait;
 use std::test::Fail;

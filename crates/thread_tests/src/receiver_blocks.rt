@@ -1,15 +1,15 @@
 //! Receivers by blocks of phases, and receivers that join now.
 ghost use Rattle.std.specs.Prelude.{◌≡◌, IfSome};
-ghost use Rattle.phase_received.specs.phase_shared.Regs.{phaser_lock};
+ghost use Rattle.phase_shared.specs.Regs.{phaser_lock};
 
 use crate::blocks::UNWRITTEN;
 use crate::calls::SumPhaser;
 use crate::received::{SumReceiver, made_receiver, registers, signals};
+use phase_accum::Outcome;
+use phase_base::Mode;
+use phase_core::{GotBlock, RegisterRefusal, WaitRefusal};
 use phase_received::ReceiveFault;
-use phase_received::phase_accum::Outcome;
-use phase_received::phase_base::Mode;
-use phase_received::phase_core::{GotBlock, RegisterRefusal, WaitRefusal};
-use phase_received::phase_shared::Tried;
+use phase_shared::Tried;
 use std::alloc::Global;
 use std::sync::Wait;
 use std::test::Fail;

@@ -1,10 +1,10 @@
 //! The next phase of a receiver that signals alone, and of one that waits alone.
 use crate::received::{made_receiver, registers};
+use phase_accum::{Outcome, Single};
+use phase_base::Mode;
+use phase_core::{Got, SignalRefusal};
 use phase_received::ReceiveFault;
-use phase_received::phase_accum::{Outcome, Single};
-use phase_received::phase_base::Mode;
-use phase_received::phase_core::{Got, SignalRefusal};
-use phase_received::phase_shared::Next;
+use phase_shared::Next;
 use std::test::Fail;
 
 // What a next phase is that only waits.

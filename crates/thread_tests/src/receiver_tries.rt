@@ -1,14 +1,14 @@
 //! The calls of a receiver that wait for nobody.
 ghost use Rattle.std.specs.Prelude.{◌≡◌, IfSome};
-ghost use Rattle.phase_received.specs.phase_shared.Regs.{phaser_lock};
+ghost use Rattle.phase_shared.specs.Regs.{phaser_lock};
 
 use crate::calls::SumPhaser;
 use crate::received::{SumReceipts, SumReceiver, made_receiver};
+use phase_accum::{Outcome, Sum};
+use phase_base::Mode;
+use phase_core::{Got, SignalRefusal, WaitRefusal};
 use phase_received::ReceiveFault;
-use phase_received::phase_accum::{Outcome, Sum};
-use phase_received::phase_base::Mode;
-use phase_received::phase_core::{Got, SignalRefusal, WaitRefusal};
-use phase_received::phase_shared::{NoRule, Phaser, SendRefusal, Tried};
+use phase_shared::{NoRule, Phaser, SendRefusal, Tried};
 use std::alloc::Global;
 use std::sync::Wait;
 use std::test::Fail;

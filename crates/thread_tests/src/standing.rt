@@ -1,11 +1,11 @@
 //! Who is missing, as a registration is told.
 ghost use Rattle.std.specs.Prelude.{◌≡◌};
-ghost use Rattle.phase_received.specs.phase_shared.Regs.{phaser_lock};
+ghost use Rattle.phase_shared.specs.Regs.{phaser_lock};
 
 use crate::calls::{SumPhaser, SumReg, left, made_with_child, registered, signalled};
 use crate::received::{made_receiver, registers, signals};
-use phase_received::phase_base::Mode;
-use phase_received::phase_core::Standing;
+use phase_base::Mode;
+use phase_core::Standing;
 use std::sync::Wait;
 use std::test::Fail;
 

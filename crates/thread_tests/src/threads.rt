@@ -1,15 +1,15 @@
 //! Threads that signal, wait and leave, and what each got.
 ghost use Rattle.std.specs.Prelude.{◌≡◌, None, IfSome};
-ghost use Rattle.phase_received.specs.phase_shared.Regs.{phaser_lock};
+ghost use Rattle.phase_shared.specs.Regs.{phaser_lock};
 
 use crate::calls::{left, made_with_child, registered};
 use crate::received::{
     SumReceipts, SumReceiver, are_lists, joins, made_receiver, registers, signals,
 };
-use phase_received::phase_accum::{Outcome, Sum};
-use phase_received::phase_base::Mode;
-use phase_received::phase_core::Got;
-use phase_received::phase_shared::{NoRule, Phaser, Reg};
+use phase_accum::{Outcome, Sum};
+use phase_base::Mode;
+use phase_core::Got;
+use phase_shared::{NoRule, Phaser, Reg};
 use std::alloc::Global;
 use std::sync::Wait;
 use std::test::Fail;

@@ -1,9 +1,9 @@
 //! What a phaser tells without a turn.
 
 use crate::calls::{goes_on, left, made_with_child, signalled};
-use phase_received::phase_base::Mode;
-use phase_received::phase_core::SignalRefusal;
-use phase_received::phase_shared::Tried;
+use phase_base::Mode;
+use phase_core::SignalRefusal;
+use phase_shared::Tried;
 use std::test::Fail;
 
 // A phase is complete once both have signalled it, and then the founder gets it.

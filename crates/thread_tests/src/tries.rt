@@ -1,15 +1,15 @@
 //! Calls that wait for nobody: answers and refusals in their order.
 ghost use Rattle.std.specs.Prelude.{◌≡◌, IfSome};
-ghost use Rattle.phase_received.specs.phase_shared.Regs.{phaser_lock};
+ghost use Rattle.phase_shared.specs.Regs.{phaser_lock};
 
 use crate::calls::{
     SumPhaser, SumReg, Turned, goes_on, left, made, made_with_child, registered, waited,
 };
-use phase_received::phase_accum::{Outcome, Single, Sum};
-use phase_received::phase_base::{Mode, Spec};
-use phase_received::phase_core::{Got, RegisterRefusal, SignalRefusal, WaitRefusal};
-use phase_received::phase_shared::one_send::{OneSend, try_signal_value};
-use phase_received::phase_shared::{Next, NoRule, Past, Phaser, Reg, SendRefusal, Tried};
+use phase_accum::{Outcome, Single, Sum};
+use phase_base::{Mode, Spec};
+use phase_core::{Got, RegisterRefusal, SignalRefusal, WaitRefusal};
+use phase_shared::one_send::{OneSend, try_signal_value};
+use phase_shared::{Next, NoRule, Past, Phaser, Reg, SendRefusal, Tried};
 use std::sync::Wait;
 use std::test::Fail;
 

@@ -1,20 +1,20 @@
 //! Each law of blocks and of late waiters, used at the histories of one phaser. These functions
 //! make no call and have no effect: what a law says of a history is the contract here.
 ghost use Rattle.std.specs.Prelude.{◌≡◌, ◌≤◌, ◌++◌, [], ◌∷◌, ℤ, List, None, Some, Ok, pos, take};
-ghost use Rattle.phase_received.specs.phase_accum.Parcels.{Parcel, StandsForSends};
-ghost use Rattle.phase_received.specs.phase_accum.Sums.{sum_operation};
-ghost use Rattle.phase_received.specs.phase_accum.Values.{sum_value};
-ghost use Rattle.phase_received.specs.phase_history.Histories.{HasNoSignaller, done_of, wait_phase, start_of};
-ghost use Rattle.phase_received.specs.phase_history.Phases.{received_by};
-ghost use Rattle.phase_received.specs.phase_core.Blocks.{StandForLists};
-ghost use Rattle.phase_received.specs.phase_shared.Calls.{Signals};
-ghost use Rattle.phase_received.specs.phase_shared.Blocks.{SignalsBlock};
-ghost use Rattle.phase_received.specs.phase_shared.Parts.{PartStays, HasNoPart};
-ghost use Rattle.phase_received.specs.phase_shared.BlockParts.{SendsLists, GetsValues};
+ghost use Rattle.phase_accum.specs.Parcels.{Parcel, StandsForSends};
+ghost use Rattle.phase_accum.specs.Sums.{sum_operation};
+ghost use Rattle.phase_accum.specs.Values.{sum_value};
+ghost use Rattle.phase_history.specs.Histories.{HasNoSignaller, done_of, wait_phase, start_of};
+ghost use Rattle.phase_history.specs.Phases.{received_by};
+ghost use Rattle.phase_core.specs.Blocks.{StandForLists};
+ghost use Rattle.phase_shared.specs.Calls.{Signals};
+ghost use Rattle.phase_shared.specs.Blocks.{SignalsBlock};
+ghost use Rattle.phase_shared.specs.Parts.{PartStays, HasNoPart};
+ghost use Rattle.phase_shared.specs.BlockParts.{SendsLists, GetsValues};
 ghost use Rattle.thread_tests.specs.Worked.{worked_limits, two_sends, opened, begun, one_signal, one_block, both_got, all_left, late_waiter, late, two_written};
 
-use phase_received::phase_accum::Sum;
-use phase_received::phase_shared::laws;
+use phase_accum::Sum;
+use phase_shared::laws;
 
 /// What a signal of two phases at once adds, and one that is refused.
 fn signalled_blocks()

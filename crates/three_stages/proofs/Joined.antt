@@ -1,7 +1,7 @@
 -- A number of the first list is one of both.
 use Rattle.std.proofs.Common.{◌≡◌, ℕ, true, false, eqb, List, [], ◌∷◌, ◌++◌, refl}
 use Rattle.std.specs.Prelude.{◌||◌}
-use Rattle.phase_received.specs.phase_base.Lists.{is_in}
+use Rattle.phase_base.specs.Lists.{is_in}
 
 pub is_in-append : (task : ℕ) (xs ys : List ℕ) → is_in task xs ≡ true → is_in task (xs ++ ys) ≡ true
 is_in-append task [] ys has = absurd (cc)

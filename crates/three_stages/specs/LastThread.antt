@@ -1,14 +1,14 @@
 -- What the last thread got.
 use Rattle.std.specs.Prelude.{◌≡◌, ℕ, List, true}
-use Rattle.phase_received.specs.turn_lock.Seats.{Place}
-use Rattle.phase_received.specs.phase_base.Limits.{Limits}
-use Rattle.phase_received.specs.phase_accum.declared.outcome.Outcome.{Outcome}
-use Rattle.phase_received.specs.phase_accum.Values.{sum_value}
-use Rattle.phase_received.specs.phase_history.Legal.{IsLegal}
-use Rattle.phase_received.specs.phase_base.Lists.{is_in}
-use Rattle.phase_received.specs.phase_history.Phases.{received_by}
-use Rattle.phase_received.specs.phase_shared.declared.rule.Terms.{Terms}
-use Rattle.phase_received.specs.phase_shared.Regs.{PastState}
+use Rattle.turn_lock.specs.Seats.{Place}
+use Rattle.phase_base.specs.Limits.{Limits}
+use Rattle.phase_accum.specs.declared.outcome.Outcome.{Outcome}
+use Rattle.phase_accum.specs.Values.{sum_value}
+use Rattle.phase_history.specs.Legal.{IsLegal}
+use Rattle.phase_base.specs.Lists.{is_in}
+use Rattle.phase_history.specs.Phases.{received_by}
+use Rattle.phase_shared.specs.declared.rule.Terms.{Terms}
+use Rattle.phase_shared.specs.Regs.{PastState}
 use Rattle.phase_received.specs.Whole.{HasWhole}
 
 -- the past is of this phaser, and by its legal history these values are what one registration that

@@ -5,14 +5,14 @@
 
 ghost use Rattle.std.specs.Prelude.{◌≡◌, None, IfSome};
 ghost use denote.Param.Send.{IsSync};
-ghost use Rattle.phase_received.specs.phase_shared.Regs.{phaser_lock, phaser_limits};
+ghost use Rattle.phase_shared.specs.Regs.{phaser_lock, phaser_limits};
 ghost use Rattle.three_stages.specs.LastThread.{GotWhole};
 
-use phase_received::phase_accum::{Outcome, Sum};
-use phase_received::phase_base::{Mode, Spec};
-use phase_received::phase_core::Got;
-use phase_received::phase_shared::{NoRule, Past, Phaser, Reg};
+use phase_accum::{Outcome, Sum};
+use phase_base::{Mode, Spec};
+use phase_core::Got;
 use phase_received::{Receipts, Receiver, laws};
+use phase_shared::{NoRule, Past, Phaser, Reg};
 use std::alloc::Global;
 use std::io;
 use std::sync::Wait;
@@ -179,7 +179,7 @@ fn joins(bus: &Bus, sunk: Sunk, others: Left) -> Sunk
         result.values.items }
 {
     laws::whole();
-    phase_received::phase_shared::laws::parts_stay();
+    phase_shared::laws::parts_stay();
     let Sunk { past, values } = sunk;
     let past = past.join(bus, others);
     Sunk { past, values }

@@ -1,11 +1,11 @@
 -- Histories in which task 1 alone signals, and names no single.
 use Rattle.std.proofs.Common.{◌≡◌, ◌≢◌, ℕ, true, false, eqb, cond, List, [], ◌∷◌, ◌++◌, None, refl, sym, ◌∙◌}
 use Rattle.std.proofs.lemmas.Bool.{eqb-true}
-use Rattle.phase_received.specs.phase_history.declared.event.Event.TheVariants.{Made, Registered, RegisteredNow, Signalled, Waited, Dropped}
-use Rattle.phase_received.specs.phase_history.Histories.{History, signal_phase}
-use Rattle.phase_received.specs.phase_history.Phases.{list_in_phase}
-use Rattle.phase_received.specs.phase_history.Sent.{NamesAll, sent_in}
-use Rattle.phase_received.specs.phase_shared.Rule.{Keeps}
+use Rattle.phase_history.specs.declared.event.Event.TheVariants.{Made, Registered, RegisteredNow, Signalled, Waited, Dropped}
+use Rattle.phase_history.specs.Histories.{History, signal_phase}
+use Rattle.phase_history.specs.Phases.{list_in_phase}
+use Rattle.phase_history.specs.Sent.{NamesAll, sent_in}
+use Rattle.phase_shared.specs.Rule.{Keeps}
 use Rattle.two_threads_by_blocks.specs.Sent.{by_one}
 
 -- no signal names a single

@@ -1,17 +1,17 @@
 -- The rule of the bus, and what the taker got.
 use Rattle.std.specs.Prelude.{◌≡◌, ℕ, [], ◌∷◌, List, Some, None, map, drop}
 use Rattle.std.specs.List.{range_with_len}
-use Rattle.phase_received.specs.turn_lock.Seats.{Place}
-use Rattle.phase_received.specs.phase_base.Limits.{Limits}
-use Rattle.phase_received.specs.phase_base.declared.entry.Entry.{Entry}
-use Rattle.phase_received.specs.phase_accum.declared.outcome.Outcome.{Outcome}
-use Rattle.phase_received.specs.phase_accum.Values.{sum_value}
-use Rattle.phase_received.specs.phase_history.Histories.{HasNoSignaller, start_of, done_of}
-use Rattle.phase_received.specs.phase_history.Legal.{IsLegal}
-use Rattle.phase_received.specs.phase_history.Sent.{sent_in}
-use Rattle.phase_received.specs.phase_shared.Rule.{Allows}
-use Rattle.phase_received.specs.phase_shared.declared.rule.Terms.{Terms}
-use Rattle.phase_received.specs.phase_shared.Regs.{PastState}
+use Rattle.turn_lock.specs.Seats.{Place}
+use Rattle.phase_base.specs.Limits.{Limits}
+use Rattle.phase_base.specs.declared.entry.Entry.{Entry}
+use Rattle.phase_accum.specs.declared.outcome.Outcome.{Outcome}
+use Rattle.phase_accum.specs.Values.{sum_value}
+use Rattle.phase_history.specs.Histories.{HasNoSignaller, start_of, done_of}
+use Rattle.phase_history.specs.Legal.{IsLegal}
+use Rattle.phase_history.specs.Sent.{sent_in}
+use Rattle.phase_shared.specs.Rule.{Allows}
+use Rattle.phase_shared.specs.declared.rule.Terms.{Terms}
+use Rattle.phase_shared.specs.Regs.{PastState}
 use Rattle.two_threads_by_blocks.specs.declared.rule.ByOne.{ByOne}
 
 -- task 1 alone signals, and names no single

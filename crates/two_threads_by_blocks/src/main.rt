@@ -4,18 +4,18 @@
 #![tactic(auto)]
 
 ghost use Rattle.std.specs.Prelude.{◌≡◌, None, IfSome};
-ghost use Rattle.phase_received.specs.phase_shared.Regs.{phaser_lock, phaser_limits};
+ghost use Rattle.phase_shared.specs.Regs.{phaser_lock, phaser_limits};
 ghost use Rattle.phase_received.specs.Whole.{HasSeenEnd};
 ghost use Rattle.two_threads_by_blocks.specs.Sent.{GotSent};
 
 mod rule;
 
 use crate::rule::{ByOne, only_one_sends};
+use phase_accum::{Outcome, Pending, Sum};
+use phase_base::{Mode, Spec};
+use phase_core::GotBlock;
 use phase_received::Receiver;
-use phase_received::phase_accum::{Outcome, Pending, Sum};
-use phase_received::phase_base::{Mode, Spec};
-use phase_received::phase_core::GotBlock;
-use phase_received::phase_shared::{Past, Phaser, Reg};
+use phase_shared::{Past, Phaser, Reg};
 use std::alloc::Global;
 use std::io;
 use std::sync::Wait;

@@ -1,17 +1,17 @@
 //! The rule of the bus: task 1 alone signals, and names no single.
 ghost use Rattle.std.specs.Prelude.{◌≡◌, map};
 ghost use Rattle.std.specs.List.{range_with_len};
-ghost use Rattle.phase_received.specs.phase_base.Limits.{Limits};
-ghost use Rattle.phase_received.specs.phase_accum.Values.{sum_value};
-ghost use Rattle.phase_received.specs.phase_history.Histories.{History, HasNoSignaller, done_of};
-ghost use Rattle.phase_received.specs.phase_history.Legal.{IsLegal};
-ghost use Rattle.phase_received.specs.phase_history.Phases.{stream_of};
-ghost use Rattle.phase_received.specs.phase_history.Sent.{sent_in};
-ghost use Rattle.phase_received.specs.phase_shared.Rule.{Keeps};
+ghost use Rattle.phase_base.specs.Limits.{Limits};
+ghost use Rattle.phase_accum.specs.Values.{sum_value};
+ghost use Rattle.phase_history.specs.Histories.{History, HasNoSignaller, done_of};
+ghost use Rattle.phase_history.specs.Legal.{IsLegal};
+ghost use Rattle.phase_history.specs.Phases.{stream_of};
+ghost use Rattle.phase_history.specs.Sent.{sent_in};
+ghost use Rattle.phase_shared.specs.Rule.{Keeps};
 ghost use Rattle.two_threads_by_blocks.specs.Sent.{allows_one, by_one};
 
-use phase_received::phase_core::laws;
-use phase_received::phase_shared::SignalRule;
+use phase_history::laws;
+use phase_shared::SignalRule;
 
 /// Task 1 alone signals, and names no single.
 #[derive(Clone, Copy, Debug, PartialEq, Eq)]

@@ -3,23 +3,23 @@ use Rattle.std.proofs.Common.{◌≡◌, ℕ, suc, ◌<◌, ◌≤◌, All, Cont
 use Rattle.std.proofs.lemmas.List.Elements.{All-nil, All-cons}
 use Rattle.std.proofs.lemmas.Option.{same_Some}
 use Rattle.std.proofs.lemmas.Slice.Eq.{bytes_eq-Decides}
-use Rattle.graph_runs.specs.phase_base.declared.limits.TheConstants.{BOUND_MAX}
-use Rattle.graph_runs.specs.phase_accum.declared.single.Single.{Single}
-use Rattle.graph_runs.specs.phase_accum.Singles.{CanBeNamed}
-use Rattle.graph_runs.specs.phase_base.Words.{Word, is_name, is_file}
-use Rattle.graph_runs.specs.graph_base.declared.limits.TheConstants.{PHASERS_MAX, TASKS_MAX, ENDS_MAX, STEPS_MAX, FACTOR_MAX, EVERY_MAX}
-use Rattle.graph_runs.specs.graph_base.declared.line.Kind.{Kind}
-use Rattle.graph_runs.specs.graph_base.declared.line.Kind.TheVariants.{Source, Fir, Split, Decimate, Join, Peer, Sink}
-use Rattle.graph_runs.specs.graph_base.declared.line.Parent.{Parent}
-use Rattle.graph_runs.specs.graph_base.declared.line.PhaserLine.{PhaserLine}
-use Rattle.graph_runs.specs.graph_base.declared.place.Place.{Place}
-use Rattle.graph_runs.specs.graph_base.declared.place.Place.TheVariants as at_place
-use Rattle.graph_runs.specs.graph_base.Graphs.{Graph, Task, Named, IsPlace, name_at, task_at, phaser_at, sources_of}
-use Rattle.graph_runs.specs.graph_base.Names.{place_of}
-use Rattle.graph_runs.specs.graph_base.TaskLines.{IsGraph, IsTaskLine, IsPhaserLine, IsParent, AreNames, AreRising, AreAmong, HasEnds, HasTaps, HasFactor, HasEvery, HasBlock, MayJoinNow, IsExchangeBelow, has_children, has_blocks}
-use Rattle.graph_runs.specs.phase_base.Lists.{is_distinct}
-use Rattle.graph_runs.specs.graph_base.stream_filters.Filter.{no_form}
-use Rattle.graph_runs.specs.graph_base.stream_filters.declared.form.Form.{Form}
+use Rattle.phase_base.specs.declared.limits.TheConstants.{BOUND_MAX}
+use Rattle.phase_accum.specs.declared.single.Single.{Single}
+use Rattle.phase_accum.specs.Singles.{CanBeNamed}
+use Rattle.phase_base.specs.Words.{Word, is_name, is_file}
+use Rattle.graph_base.specs.declared.limits.TheConstants.{PHASERS_MAX, TASKS_MAX, ENDS_MAX, STEPS_MAX, FACTOR_MAX, EVERY_MAX}
+use Rattle.graph_base.specs.declared.line.Kind.{Kind}
+use Rattle.graph_base.specs.declared.line.Kind.TheVariants.{Source, Fir, Split, Decimate, Join, Peer, Sink}
+use Rattle.graph_base.specs.declared.line.Parent.{Parent}
+use Rattle.graph_base.specs.declared.line.PhaserLine.{PhaserLine}
+use Rattle.graph_base.specs.declared.place.Place.{Place}
+use Rattle.graph_base.specs.declared.place.Place.TheVariants as at_place
+use Rattle.graph_base.specs.Graphs.{Graph, Task, Named, IsPlace, name_at, task_at, phaser_at, sources_of}
+use Rattle.graph_base.specs.Names.{place_of}
+use Rattle.graph_base.specs.TaskLines.{IsGraph, IsTaskLine, IsPhaserLine, IsParent, AreNames, AreRising, AreAmong, HasEnds, HasTaps, HasFactor, HasEvery, HasBlock, MayJoinNow, IsExchangeBelow, has_children, has_blocks}
+use Rattle.phase_base.specs.Lists.{is_distinct}
+use Rattle.stream_filters.specs.Filter.{no_form}
+use Rattle.stream_filters.specs.declared.form.Form.{Form}
 use Rattle.worked_runs.proofs.Tests as test
 use Rattle.worked_runs.proofs.Tests.{Test, Both, never, always, giving, both, either, each, when_some, where_so}
 

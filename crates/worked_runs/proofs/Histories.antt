@@ -1,11 +1,11 @@
 -- How histories grow by the events of a run.
 use Rattle.std.proofs.Common.{◌≡◌, ◌≢◌, ℕ, ◌<◌, ◌||◌, Bool, true, false, cond, eqb, eqb-true, eq-eqb, List, [], ◌∷◌, ◌++◌, length, refl, sym, ap, ◌∙◌, arith}
 use Rattle.std.proofs.lemmas.List.{append_assoc}
-use Rattle.graph_runs.specs.phase_history.declared.event.Event.{Event}
-use Rattle.graph_runs.specs.phase_history.Histories.{History, IsBeginning}
-use Rattle.graph_runs.specs.phase_base.Lists.{is_in}
-use Rattle.graph_runs.specs.graph_base.TaskLines.{IsGraph}
-use Rattle.graph_runs.specs.stream_lists.Jobs.{Job}
+use Rattle.phase_history.specs.declared.event.Event.{Event}
+use Rattle.phase_history.specs.Histories.{History, IsBeginning}
+use Rattle.phase_base.specs.Lists.{is_in}
+use Rattle.graph_base.specs.TaskLines.{IsGraph}
+use Rattle.stream_lists.specs.Jobs.{Job}
 use Rattle.graph_runs.specs.Moments.{Moment, HasRun}
 use Rattle.graph_runs.proofs.OnLines.{on_phaser}
 use Rattle.graph_runs.specs.Moves.{HasGrown, OthersMoved}

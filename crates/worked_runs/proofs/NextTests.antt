@@ -1,28 +1,28 @@
 -- Tests of the next event of a task, where it is of one step.
 use Rattle.std.proofs.Common.{◌≡◌, ℕ, zero, suc, ◌+◌, ◌<◌, ◌≤◌, Bool, true, false, ◌||◌, cond, eqb, eq-eqb, List, [], ◌∷◌, ◌++◌, Option, Some, None, is_some, is_none, ℤ, pos, length, map, get_or, take, drop, unsigned_abs, refl, sym, ◌∙◌, ap, arith, inl, inr}
 use Rattle.std.specs.List.{position_from}
-use Rattle.graph_runs.specs.phase_base.Modes.{mode_signals, mode_waits}
-use Rattle.graph_runs.specs.phase_base.Members.{signal_phases}
-use Rattle.graph_runs.specs.phase_base.declared.mode.Mode.{Mode}
-use Rattle.graph_runs.specs.phase_accum.declared.outcome.Outcome.{Outcome}
-use Rattle.graph_runs.specs.phase_accum.Sends.{value_max}
-use Rattle.graph_runs.specs.phase_history.Legal.{AreLists}
-use Rattle.graph_runs.specs.phase_history.Histories.{members_of, done_of, wait_phase, has_dropped}
-use Rattle.graph_runs.specs.phase_history.Phases.{stream_of, received_by}
-use Rattle.graph_runs.specs.phase_history.Refusals.{register_refusal, signal_refusal, wait_refusal, drop_refusal}
-use Rattle.graph_runs.specs.graph_base.declared.line.Kind.{Kind}
-use Rattle.graph_runs.specs.graph_base.declared.line.Kind.TheVariants.{Source, Fir, Split, Decimate, Join, Peer, Sink}
-use Rattle.graph_runs.specs.graph_base.declared.line.Parent.{Parent}
-use Rattle.graph_runs.specs.graph_base.Graphs.{Task, task_at, phaser_at, is_source}
-use Rattle.graph_runs.specs.graph_base.TaskLines.{IsGraph}
-use Rattle.graph_runs.specs.stream_lists.Jobs.{Job, samples_at, index_in}
-use Rattle.graph_runs.specs.stream_lists.Spans.{signalled_by, takes_from}
-use Rattle.graph_runs.proofs.stream_lists_lemmas.Ordered.{place-at}
+use Rattle.phase_base.specs.Modes.{mode_signals, mode_waits}
+use Rattle.phase_base.specs.Members.{signal_phases}
+use Rattle.phase_base.specs.declared.mode.Mode.{Mode}
+use Rattle.phase_accum.specs.declared.outcome.Outcome.{Outcome}
+use Rattle.phase_accum.specs.Sends.{value_max}
+use Rattle.phase_history.specs.Legal.{AreLists}
+use Rattle.phase_history.specs.Histories.{members_of, done_of, wait_phase, has_dropped}
+use Rattle.phase_history.specs.Phases.{stream_of, received_by}
+use Rattle.phase_history.specs.Refusals.{register_refusal, signal_refusal, wait_refusal, drop_refusal}
+use Rattle.graph_base.specs.declared.line.Kind.{Kind}
+use Rattle.graph_base.specs.declared.line.Kind.TheVariants.{Source, Fir, Split, Decimate, Join, Peer, Sink}
+use Rattle.graph_base.specs.declared.line.Parent.{Parent}
+use Rattle.graph_base.specs.Graphs.{Task, task_at, phaser_at, is_source}
+use Rattle.graph_base.specs.TaskLines.{IsGraph}
+use Rattle.stream_lists.specs.Jobs.{Job, samples_at, index_in}
+use Rattle.stream_lists.specs.Spans.{signalled_by, takes_from}
+use Rattle.stream_lists.proofs.Ordered.{place-at}
 use Rattle.graph_runs.specs.Moments.{one, Moment, HasRun, limits_at, value_at, input_at, made_now, first_input, OnLine, AtMost, HasSamples, HasExchanged, HasEnded, MayStop, at_until, no_sample, no_input, RanOut}
 use Rattle.graph_runs.proofs.OnLines.{on_phaser}
 use Rattle.graph_runs.specs.Moves.{IsStaying, NoneDue, NoneBefore, MayBegin, MayBeginTo}
 use Rattle.graph_runs.specs.Turned.{IsAcceptedSignals, IsAcceptedSignal, IsNextSignal, IsNextSample, IsAnsweredWaits, IsAnsweredWait, IsFirstWait, IsExchangeWait, IsNextLeave, IsNextChild}
-use Rattle.graph_runs.proofs.stream_lists_lemmas.Basics.{source_kind}
+use Rattle.stream_lists.proofs.Basics.{source_kind}
 use Rattle.worked_runs.specs.Runs.{IsThere}
 use Rattle.worked_runs.proofs.Tests as test
 use Rattle.worked_runs.proofs.Tests.{Test, Both, never, always, giving, both, either, each, when_some, where_so}

@@ -1,17 +1,17 @@
 -- Tests of an opening that is given by lists.
 use Rattle.std.proofs.Common.{◌≡◌, ◌≢◌, ℕ, zero, suc, ◌<◌, Bool, true, false, eqb, eq-eqb, List, [], ◌∷◌, Option, Some, None, is_some, is_none, IsSome, length, get_or, refl, arith}
-use Rattle.graph_runs.specs.phase_base.Limits.{Limits, AreLimits}
-use Rattle.graph_runs.specs.phase_base.Modes.{mode_signals, mode_waits}
-use Rattle.graph_runs.specs.phase_base.declared.entry.Entry.{Entry}
-use Rattle.graph_runs.specs.phase_history.declared.event.Event.TheVariants.{Made, Registered, RegisteredNow, Signalled, Waited, Dropped}
-use Rattle.graph_runs.specs.phase_history.Histories.{History, start_of}
-use Rattle.graph_runs.specs.phase_history.Refusals.{register_refusal, drop_refusal}
-use Rattle.graph_runs.specs.phase_history.Legal.{IsLegal}
-use Rattle.graph_runs.specs.phase_history.Others.{IsUsed}
-use Rattle.graph_runs.specs.graph_base.Graphs.{task_at}
-use Rattle.graph_runs.specs.graph_base.TaskLines.{IsGraph}
-use Rattle.graph_runs.specs.stream_lists.Jobs.{Job, index_in}
-use Rattle.graph_runs.specs.stream_lists.Spans.{signalled_by}
+use Rattle.phase_base.specs.Limits.{Limits, AreLimits}
+use Rattle.phase_base.specs.Modes.{mode_signals, mode_waits}
+use Rattle.phase_base.specs.declared.entry.Entry.{Entry}
+use Rattle.phase_history.specs.declared.event.Event.TheVariants.{Made, Registered, RegisteredNow, Signalled, Waited, Dropped}
+use Rattle.phase_history.specs.Histories.{History, start_of}
+use Rattle.phase_history.specs.Refusals.{register_refusal, drop_refusal}
+use Rattle.phase_history.specs.Legal.{IsLegal}
+use Rattle.phase_history.specs.Others.{IsUsed}
+use Rattle.graph_base.specs.Graphs.{task_at}
+use Rattle.graph_base.specs.TaskLines.{IsGraph}
+use Rattle.stream_lists.specs.Jobs.{Job, index_in}
+use Rattle.stream_lists.specs.Spans.{signalled_by}
 use Rattle.graph_runs.specs.Moments.{limits_at, input_at, OnLine}
 use Rattle.graph_runs.proofs.OnLines.{on_phaser}
 use Rattle.graph_runs.specs.Openings.{IsOpening, PhaserOpened, TaskOpened, HasOpened}

@@ -1,13 +1,13 @@
 -- What the peer of the worked run sees: legal histories, and events of others before its own.
 use Rattle.std.proofs.Common.{◌≡◌, ℕ, zero, suc, ◌<◌, ◌≤◌, leb-true, Some, [], ◌∷◌, ◌++◌, None, get_or, pos, refl, sym, ap, subst, ◌∙◌, arith}
-use Rattle.graph_runs.specs.phase_base.Limits.{AreLimits}
-use Rattle.graph_runs.specs.phase_base.declared.mode.Mode.TheVariants.{Sig}
-use Rattle.graph_runs.specs.phase_history.declared.event.Event.TheVariants.{Made, Registered, Signalled, Waited, Dropped}
-use Rattle.graph_runs.specs.phase_history.Histories.{History}
-use Rattle.graph_runs.specs.phase_history.Legal.{IsLegal}
-use Rattle.graph_runs.specs.phase_history.Others.{OthersCame, events_of}
-use Rattle.graph_runs.specs.graph_base.Graphs.{task_at}
-use Rattle.graph_runs.specs.graph_base.declared.line.Parent.{Parent}
+use Rattle.phase_base.specs.Limits.{AreLimits}
+use Rattle.phase_base.specs.declared.mode.Mode.TheVariants.{Sig}
+use Rattle.phase_history.specs.declared.event.Event.TheVariants.{Made, Registered, Signalled, Waited, Dropped}
+use Rattle.phase_history.specs.Histories.{History}
+use Rattle.phase_history.specs.Legal.{IsLegal}
+use Rattle.phase_history.specs.Others.{OthersCame, events_of}
+use Rattle.graph_base.specs.Graphs.{task_at}
+use Rattle.graph_base.specs.declared.line.Parent.{Parent}
 use Rattle.graph_runs.specs.Moments.{Moment, limits_at}
 use Rattle.graph_runs.specs.TaskPlaces.{registration_at}
 use Rattle.graph_runs.proofs.Signalling.{sendable}

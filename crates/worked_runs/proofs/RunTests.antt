@@ -1,13 +1,13 @@
 -- A run is tested event by event.
 use Rattle.std.proofs.Common.{◌≡◌, ℕ, ◌<◌, true, false, List, [], ◌∷◌, ℤ, Some, length, take, drop}
-use Rattle.graph_runs.specs.phase_base.Members.{signal_phases}
-use Rattle.graph_runs.specs.phase_accum.declared.outcome.Outcome.{Outcome}
-use Rattle.graph_runs.specs.phase_history.declared.event.Event.TheVariants.{Made, Registered, RegisteredNow, Signalled, Waited, Dropped}
-use Rattle.graph_runs.specs.phase_history.Histories.{History, members_of, wait_phase, has_dropped, HasNoSignaller}
-use Rattle.graph_runs.specs.phase_history.Phases.{stream_of}
-use Rattle.graph_runs.specs.graph_base.TaskLines.{IsGraph}
-use Rattle.graph_runs.specs.stream_lists.Jobs.{Job}
-use Rattle.graph_runs.specs.stream_lists.Ranges.{is_too_big}
+use Rattle.phase_base.specs.Members.{signal_phases}
+use Rattle.phase_accum.specs.declared.outcome.Outcome.{Outcome}
+use Rattle.phase_history.specs.declared.event.Event.TheVariants.{Made, Registered, RegisteredNow, Signalled, Waited, Dropped}
+use Rattle.phase_history.specs.Histories.{History, members_of, wait_phase, has_dropped, HasNoSignaller}
+use Rattle.phase_history.specs.Phases.{stream_of}
+use Rattle.graph_base.specs.TaskLines.{IsGraph}
+use Rattle.stream_lists.specs.Jobs.{Job}
+use Rattle.stream_lists.specs.Ranges.{is_too_big}
 use Rattle.graph_runs.specs.Moments.{Moment, HasRun, IsOver, AnsweredNone, value_at}
 use Rattle.graph_runs.proofs.OnLines.{on_phaser}
 use Rattle.worked_runs.specs.Runs.{TaskEvent, after_turn, after_all, IsNext, AreNext, HasRunThrough}

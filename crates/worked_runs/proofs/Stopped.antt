@@ -2,20 +2,20 @@
 use Rattle.std.proofs.Common.{◌≡◌, ◌<◌, ◌+◌, ◌++◌, ◌||◌, ℕ, ℤ, zero, suc, Bool, true, false, eqb, eqb-true, List, [], ◌∷◌, Some, None, length, slice_get, pos, refl, sym, ap, subst, ◌∙◌, arith}
 use Rattle.std.specs.List.{All}
 use Rattle.std.proofs.lemmas.Option.{same_Some}
-use Rattle.graph_runs.specs.phase_base.Lists.{is_in}
-use Rattle.graph_runs.specs.phase_base.declared.mode.Mode.TheVariants.{Sig, Wait}
-use Rattle.graph_runs.specs.phase_accum.declared.outcome.Outcome.{Outcome}
-use Rattle.graph_runs.specs.phase_accum.declared.outcome.Outcome.TheVariants.{Value}
-use Rattle.graph_runs.specs.phase_history.declared.event.Event.TheVariants.{Registered, Signalled, Waited, Dropped}
-use Rattle.graph_runs.specs.phase_history.Histories.{History, has_dropped}
-use Rattle.graph_runs.specs.phase_history.Legal.{IsLegal}
-use Rattle.graph_runs.specs.phase_history.Others.{OthersCame, children_in, events_of}
-use Rattle.graph_runs.specs.phase_history.Phases.{received_by}
-use Rattle.graph_runs.specs.phase_history.Sent.{NamesAll}
-use Rattle.graph_runs.specs.graph_base.declared.line.Kind.TheVariants.{Sink}
-use Rattle.graph_runs.specs.graph_base.declared.line.Parent.{Parent}
-use Rattle.graph_runs.specs.graph_base.Graphs.{phaser_at, task_at}
-use Rattle.graph_runs.specs.graph_base.TaskLines.{IsGraph}
+use Rattle.phase_base.specs.Lists.{is_in}
+use Rattle.phase_base.specs.declared.mode.Mode.TheVariants.{Sig, Wait}
+use Rattle.phase_accum.specs.declared.outcome.Outcome.{Outcome}
+use Rattle.phase_accum.specs.declared.outcome.Outcome.TheVariants.{Value}
+use Rattle.phase_history.specs.declared.event.Event.TheVariants.{Registered, Signalled, Waited, Dropped}
+use Rattle.phase_history.specs.Histories.{History, has_dropped}
+use Rattle.phase_history.specs.Legal.{IsLegal}
+use Rattle.phase_history.specs.Others.{OthersCame, children_in, events_of}
+use Rattle.phase_history.specs.Phases.{received_by}
+use Rattle.phase_history.specs.Sent.{NamesAll}
+use Rattle.graph_base.specs.declared.line.Kind.TheVariants.{Sink}
+use Rattle.graph_base.specs.declared.line.Parent.{Parent}
+use Rattle.graph_base.specs.Graphs.{phaser_at, task_at}
+use Rattle.graph_base.specs.TaskLines.{IsGraph}
 use Rattle.graph_runs.specs.Answers.{after_turns}
 use Rattle.graph_runs.specs.Beginnings.{opening}
 use Rattle.graph_runs.specs.Moments.{Moment, HasRun, limits_at, value_at}
@@ -25,8 +25,8 @@ use Rattle.graph_runs.specs.RunEnds.{HasCome, IsRegisteredOn}
 use Rattle.graph_runs.specs.Stops.{Agree, HasRunSoFar, HasStoppedAt, IsStillOpen}
 use Rattle.graph_runs.specs.TaskEnds.{FounderEnd, HasFounded, HasOwnCalls, TaskEnd}
 use Rattle.graph_runs.specs.TaskPlaces.{registration_at}
-use Rattle.graph_runs.specs.stream_lists.Jobs.{Job, with_samples}
-use Rattle.graph_runs.specs.stream_lists.Ranges.{is_too_big}
+use Rattle.stream_lists.specs.Jobs.{Job, with_samples}
+use Rattle.stream_lists.specs.Ranges.{is_too_big}
 use Rattle.graph_runs.proofs.OnLines.{on_phaser}
 use Rattle.worked_runs.specs.WorkedStops.{a_has_ended, a_knows, a_saw, as_a_knows, as_b_knows, as_out_knows, b_knows, b_saw, begun, end_with, founder_saw, out_knows, out_saw, stopped_ends, stopped_graph, unfed}
 use Rattle.worked_runs.proofs.GraphTests.{is_graph}

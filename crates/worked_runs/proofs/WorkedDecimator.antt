@@ -1,6 +1,6 @@
 -- The worked run of a decimator: its graph.
 use Rattle.std.proofs.Common.{refl}
-use Rattle.graph_runs.specs.graph_base.TaskLines.{IsGraph}
+use Rattle.graph_base.specs.TaskLines.{IsGraph}
 use Rattle.graph_runs.specs.Settled.{IsReady}
 use Rattle.worked_runs.specs.WorkedDecimator.{thirds}
 use Rattle.worked_runs.proofs.GraphTests.{is_graph}

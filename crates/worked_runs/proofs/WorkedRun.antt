@@ -1,7 +1,7 @@
 -- The worked run: its graph, and its parts from one moment to another.
 use Rattle.std.proofs.Common.{◌≡◌, List, true, refl}
-use Rattle.graph_runs.specs.graph_base.TaskLines.{IsGraph}
-use Rattle.graph_runs.specs.stream_lists.Jobs.{Job}
+use Rattle.graph_base.specs.TaskLines.{IsGraph}
+use Rattle.stream_lists.specs.Jobs.{Job}
 use Rattle.graph_runs.specs.Moments.{Moment, HasRun}
 use Rattle.graph_runs.specs.Settled.{IsReady}
 use Rattle.worked_runs.specs.Runs.{TaskEvent, AreNext, HasRunThrough, after_all}

@@ -1,7 +1,7 @@
 -- Runs of a graph as lists of events, one event of one task at a time, of one step or of a block.
 use Rattle.std.specs.Prelude.{ℕ, List, [], ◌∷◌, Option, None, get_or}
-use Rattle.graph_runs.specs.phase_history.Histories.{History}
-use Rattle.graph_runs.specs.stream_lists.Jobs.{Job}
+use Rattle.phase_history.specs.Histories.{History}
+use Rattle.stream_lists.specs.Jobs.{Job}
 use Rattle.graph_runs.specs.Moments.{Moment, HasRun}
 pub use Rattle.graph_runs.specs.TaskEvents.{TaskEvent, sample, signal, first_wait, exchange_wait, leave, child, child_now, IsThere, after_turn, IsNext}
 

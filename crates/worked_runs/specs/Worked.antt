@@ -1,17 +1,17 @@
 -- A worked run: a source, a peer alone on its exchange, a splitter, a joiner, a sink with `until`,
 -- and its child, from the opening to the end.
 use Rattle.std.specs.Prelude.{ℕ, List, [], ◌∷◌, ◌++◌, take, Option, Some, None, pos, codes}
-use Rattle.graph_runs.specs.phase_base.declared.mode.Mode.TheVariants.{Sig, Wait, SigWait}
-use Rattle.graph_runs.specs.phase_accum.declared.outcome.Outcome.TheVariants.{Value}
-use Rattle.graph_runs.specs.phase_history.declared.event.Event.TheVariants.{Made, Registered, Dropped}
-use Rattle.graph_runs.specs.phase_history.Histories.{History}
-use Rattle.graph_runs.specs.phase_base.declared.operation.Op.TheVariants.{Sum}
-use Rattle.graph_runs.specs.graph_base.declared.line.Kind.TheVariants.{Source, Split, Join, Peer}
-use Rattle.graph_runs.specs.graph_base.declared.line.Parent.{Parent}
-use Rattle.graph_runs.specs.graph_base.declared.line.PhaserLine.{PhaserLine}
-use Rattle.graph_runs.specs.graph_base.declared.place.Place.TheVariants as place
-use Rattle.graph_runs.specs.graph_base.Graphs.{Graph, no_task}
-use Rattle.graph_runs.specs.stream_lists.Jobs.{Job}
+use Rattle.phase_base.specs.declared.mode.Mode.TheVariants.{Sig, Wait, SigWait}
+use Rattle.phase_accum.specs.declared.outcome.Outcome.TheVariants.{Value}
+use Rattle.phase_history.specs.declared.event.Event.TheVariants.{Made, Registered, Dropped}
+use Rattle.phase_history.specs.Histories.{History}
+use Rattle.phase_base.specs.declared.operation.Op.TheVariants.{Sum}
+use Rattle.graph_base.specs.declared.line.Kind.TheVariants.{Source, Split, Join, Peer}
+use Rattle.graph_base.specs.declared.line.Parent.{Parent}
+use Rattle.graph_base.specs.declared.line.PhaserLine.{PhaserLine}
+use Rattle.graph_base.specs.declared.place.Place.TheVariants as place
+use Rattle.graph_base.specs.Graphs.{Graph, no_task}
+use Rattle.stream_lists.specs.Jobs.{Job}
 use Rattle.graph_runs.specs.Moments.{Moment}
 use Rattle.worked_runs.specs.Runs.{TaskEvent, sample, signal, first_wait, exchange_wait, leave, child, opened, after_turn, after_all}
 

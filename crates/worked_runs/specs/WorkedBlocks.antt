@@ -1,12 +1,12 @@
 -- A worked run in blocks: a source, a filter and a sink that make up to three steps in one event,
 -- and a child of the sink that joins now, from the opening to the end.
 use Rattle.std.specs.Prelude.{ℕ, List, [], ◌∷◌, Option, Some, None, pos, codes, true}
-use Rattle.graph_runs.specs.phase_accum.declared.outcome.Outcome.TheVariants.{Value}
-use Rattle.graph_runs.specs.graph_base.declared.line.Kind.TheVariants.{Source, Fir}
-use Rattle.graph_runs.specs.graph_base.declared.line.Parent.{Parent}
-use Rattle.graph_runs.specs.graph_base.declared.place.Place.TheVariants as place
-use Rattle.graph_runs.specs.graph_base.Graphs.{Graph, no_task}
-use Rattle.graph_runs.specs.stream_lists.Jobs.{Job}
+use Rattle.phase_accum.specs.declared.outcome.Outcome.TheVariants.{Value}
+use Rattle.graph_base.specs.declared.line.Kind.TheVariants.{Source, Fir}
+use Rattle.graph_base.specs.declared.line.Parent.{Parent}
+use Rattle.graph_base.specs.declared.place.Place.TheVariants as place
+use Rattle.graph_base.specs.Graphs.{Graph, no_task}
+use Rattle.stream_lists.specs.Jobs.{Job}
 use Rattle.graph_runs.specs.Moments.{Moment}
 use Rattle.worked_runs.specs.Runs.{TaskEvent, sample, signal, first_wait, leave, child_now, opened, after_turn, after_all}
 use Rattle.worked_runs.specs.Worked.{bus, founded}

@@ -1,13 +1,13 @@
 -- Worked runs with a decimator, which puts one value of three.
 use Rattle.std.specs.Prelude.{ℕ, ℤ, List, [], ◌∷◌, Option, Some, None, pos, codes}
-use Rattle.graph_runs.specs.phase_base.declared.mode.Mode.TheVariants.{Sig, Wait}
-use Rattle.graph_runs.specs.phase_accum.declared.outcome.Outcome.TheVariants.{Value}
-use Rattle.graph_runs.specs.phase_history.declared.event.Event.TheVariants.{Made, Registered, Dropped}
-use Rattle.graph_runs.specs.phase_history.Histories.{History}
-use Rattle.graph_runs.specs.graph_base.declared.line.Kind.TheVariants.{Source, Fir, Decimate}
-use Rattle.graph_runs.specs.graph_base.declared.place.Place.TheVariants as place
-use Rattle.graph_runs.specs.graph_base.Graphs.{Graph, no_task}
-use Rattle.graph_runs.specs.stream_lists.Jobs.{Job}
+use Rattle.phase_base.specs.declared.mode.Mode.TheVariants.{Sig, Wait}
+use Rattle.phase_accum.specs.declared.outcome.Outcome.TheVariants.{Value}
+use Rattle.phase_history.specs.declared.event.Event.TheVariants.{Made, Registered, Dropped}
+use Rattle.phase_history.specs.Histories.{History}
+use Rattle.graph_base.specs.declared.line.Kind.TheVariants.{Source, Fir, Decimate}
+use Rattle.graph_base.specs.declared.place.Place.TheVariants as place
+use Rattle.graph_base.specs.Graphs.{Graph, no_task}
+use Rattle.stream_lists.specs.Jobs.{Job}
 use Rattle.graph_runs.specs.Moments.{Moment}
 use Rattle.worked_runs.specs.Runs.{TaskEvent, sample, signal, first_wait, leave, opened, after_all}
 use Rattle.worked_runs.specs.Worked.{bus, founded}

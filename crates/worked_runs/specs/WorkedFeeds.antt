@@ -1,11 +1,11 @@
 -- Runs of graphs whose samples come in pieces, by turns from the opening on.
 use Rattle.std.specs.Prelude.{ℕ, ℤ, List, [], ◌∷◌, Some, Bool, pos, false}
-use Rattle.graph_runs.specs.graph_base.declared.line.Kind.TheVariants.{Source}
-use Rattle.graph_runs.specs.graph_base.Graphs.{Graph, no_graph, no_task}
+use Rattle.graph_base.specs.declared.line.Kind.TheVariants.{Source}
+use Rattle.graph_base.specs.Graphs.{Graph, no_graph, no_task}
 use Rattle.graph_runs.specs.Answers.{after_turns}
 use Rattle.graph_runs.specs.Beginnings.{opening}
 use Rattle.graph_runs.specs.Moments.{Moment}
-use Rattle.graph_runs.specs.stream_lists.Jobs.{Job}
+use Rattle.stream_lists.specs.Jobs.{Job}
 use Rattle.worked_runs.specs.Worked.{bus}
 
 -- no source has ended

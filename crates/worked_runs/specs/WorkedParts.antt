@@ -1,8 +1,8 @@
 -- The worked run as its peer alone sees it, up to where the peer owes its value on Y.
 use Rattle.std.specs.Prelude.{◌≡◌, ℕ, zero, suc, pos, [], ◌∷◌, Some, None, Ok}
-use Rattle.graph_runs.specs.phase_base.declared.mode.Mode.TheVariants.{Sig, Wait, SigWait}
-use Rattle.graph_runs.specs.phase_history.declared.event.Event.TheVariants.{Made, Registered, Signalled, Dropped}
-use Rattle.graph_runs.specs.phase_history.Histories.{History}
+use Rattle.phase_base.specs.declared.mode.Mode.TheVariants.{Sig, Wait, SigWait}
+use Rattle.phase_history.specs.declared.event.Event.TheVariants.{Made, Registered, Signalled, Dropped}
+use Rattle.phase_history.specs.Histories.{History}
 use Rattle.graph_runs.specs.Moments.{Moment}
 use Rattle.graph_runs.specs.TaskPlaces.{TaskPlace, StandsAt, at_start, values, exchange}
 use Rattle.graph_runs.specs.Parts.{HasPart}

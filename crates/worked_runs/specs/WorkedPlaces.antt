@@ -1,6 +1,6 @@
 -- Where the source and the peer of the worked run stand at its opening, and its first moments.
 use Rattle.std.specs.Prelude.{[], ◌∷◌, pos}
-use Rattle.graph_runs.specs.phase_accum.declared.outcome.Outcome.TheVariants.{Value}
+use Rattle.phase_accum.specs.declared.outcome.Outcome.TheVariants.{Value}
 use Rattle.graph_runs.specs.Moments.{Moment}
 use Rattle.graph_runs.specs.TaskEvents.{first_wait, after_turn}
 use Rattle.graph_runs.specs.TaskPlaces.{TaskPlace, at_start}

@@ -1,17 +1,17 @@
 -- A run that is stopped in the midst of a phase: what each task knows of it.
 use Rattle.std.specs.Prelude.{◌==◌, ℕ, ℤ, List, [], ◌∷◌, Some, None, Bool, pos, codes}
-use Rattle.graph_runs.specs.phase_base.declared.mode.Mode.TheVariants.{Sig, Wait}
-use Rattle.graph_runs.specs.phase_history.declared.event.Event.TheVariants.{Made, Registered, Signalled, Waited, Dropped}
-use Rattle.graph_runs.specs.phase_history.Histories.{History}
-use Rattle.graph_runs.specs.graph_base.declared.line.Kind.TheVariants.{Source}
-use Rattle.graph_runs.specs.graph_base.declared.place.Place.TheVariants as place
-use Rattle.graph_runs.specs.graph_base.Graphs.{Graph, no_task}
+use Rattle.phase_base.specs.declared.mode.Mode.TheVariants.{Sig, Wait}
+use Rattle.phase_history.specs.declared.event.Event.TheVariants.{Made, Registered, Signalled, Waited, Dropped}
+use Rattle.phase_history.specs.Histories.{History}
+use Rattle.graph_base.specs.declared.line.Kind.TheVariants.{Source}
+use Rattle.graph_base.specs.declared.place.Place.TheVariants as place
+use Rattle.graph_base.specs.Graphs.{Graph, no_task}
 use Rattle.graph_runs.specs.Answers.{after_turns}
 use Rattle.graph_runs.specs.Beginnings.{opening}
 use Rattle.graph_runs.specs.Moments.{Moment}
 use Rattle.graph_runs.specs.RunEnds.{Ends}
 use Rattle.graph_runs.specs.TaskEnds.{TaskEnd}
-use Rattle.graph_runs.specs.stream_lists.Jobs.{Job}
+use Rattle.stream_lists.specs.Jobs.{Job}
 use Rattle.worked_runs.specs.Worked.{bus}
 
 -- ---- the run

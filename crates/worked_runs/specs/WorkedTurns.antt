@@ -1,14 +1,14 @@
 -- Graphs whose tasks take their turns in rotation, from the opening on.
 use Rattle.std.specs.Prelude.{ℕ, zero, suc, ℤ, List, [], ◌∷◌, Some, None, pos, codes}
-use Rattle.graph_runs.specs.phase_base.declared.mode.Mode.TheVariants.{Sig, Wait}
-use Rattle.graph_runs.specs.phase_base.declared.operation.Op.TheVariants.{Sum}
-use Rattle.graph_runs.specs.phase_accum.declared.outcome.Outcome.TheVariants.{Value}
-use Rattle.graph_runs.specs.phase_history.declared.event.Event.TheVariants.{Made, Registered, Dropped}
-use Rattle.graph_runs.specs.graph_base.declared.line.Kind.TheVariants.{Source, Fir, Split}
-use Rattle.graph_runs.specs.graph_base.declared.line.PhaserLine.{PhaserLine}
-use Rattle.graph_runs.specs.graph_base.declared.place.Place.TheVariants as place
-use Rattle.graph_runs.specs.graph_base.Graphs.{Graph, no_task}
-use Rattle.graph_runs.specs.stream_lists.Jobs.{Job}
+use Rattle.phase_base.specs.declared.mode.Mode.TheVariants.{Sig, Wait}
+use Rattle.phase_base.specs.declared.operation.Op.TheVariants.{Sum}
+use Rattle.phase_accum.specs.declared.outcome.Outcome.TheVariants.{Value}
+use Rattle.phase_history.specs.declared.event.Event.TheVariants.{Made, Registered, Dropped}
+use Rattle.graph_base.specs.declared.line.Kind.TheVariants.{Source, Fir, Split}
+use Rattle.graph_base.specs.declared.line.PhaserLine.{PhaserLine}
+use Rattle.graph_base.specs.declared.place.Place.TheVariants as place
+use Rattle.graph_base.specs.Graphs.{Graph, no_task}
+use Rattle.stream_lists.specs.Jobs.{Job}
 use Rattle.graph_runs.specs.Moments.{Moment}
 use Rattle.graph_runs.specs.Answers.{Answer, makes, is_blocked, after_turns}
 use Rattle.worked_runs.specs.Runs.{sample, first_wait, opened}

@@ -1,8 +1,8 @@
 //! A whole run in blocks, with a sink that joins now, and each law of blocks used at it.
 ghost use Rattle.std.specs.Prelude.{◌≡◌, [], ◌∷◌, Ok, pos};
-ghost use Rattle.graph_runs.specs.phase_accum.declared.outcome.Outcome.TheVariants.{Value};
-ghost use Rattle.graph_runs.specs.graph_base.TaskLines.{IsGraph};
-ghost use Rattle.graph_runs.specs.stream_lists.Ranges.{answer_of};
+ghost use Rattle.phase_accum.specs.declared.outcome.Outcome.TheVariants.{Value};
+ghost use Rattle.graph_base.specs.TaskLines.{IsGraph};
+ghost use Rattle.stream_lists.specs.Ranges.{answer_of};
 ghost use Rattle.graph_runs.specs.Moments.{HasRun, TaskRan, started};
 ghost use Rattle.graph_runs.specs.Moves.{Signals, SignalsAll, WaitsAll, RegistersNow, MayBeginTo};
 ghost use Rattle.graph_runs.specs.Turned.{after_signal};

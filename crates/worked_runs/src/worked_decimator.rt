@@ -1,8 +1,8 @@
 //! Runs with a decimator: one value of three is put, and the laws of runs are used at it.
 ghost use Rattle.std.specs.Prelude.{◌≡◌, ℤ, [], ◌∷◌, ◌++◌, None, Some, Ok, map, pos, true, false};
-ghost use Rattle.graph_runs.specs.graph_base.Graphs.{task_at};
-ghost use Rattle.graph_runs.specs.graph_base.TaskLines.{IsGraph};
-ghost use Rattle.graph_runs.specs.stream_lists.Ranges.{answer_of};
+ghost use Rattle.graph_base.specs.Graphs.{task_at};
+ghost use Rattle.graph_base.specs.TaskLines.{IsGraph};
+ghost use Rattle.stream_lists.specs.Ranges.{answer_of};
 ghost use Rattle.graph_runs.specs.Moments.{HasRun, IsOver};
 ghost use Rattle.graph_runs.specs.Turned.{IsNextSignal};
 ghost use Rattle.graph_runs.specs.Answers.{answers_in_turn, makes, turn_tells, is_stalled, Blocked, Gone};

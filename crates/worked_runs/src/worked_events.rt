@@ -1,8 +1,8 @@
 //! Single events of the worked run, and the laws of one event used at them.
 ghost use Rattle.std.specs.Prelude.{ℕ, ℤ, pos};
-ghost use Rattle.graph_runs.specs.phase_base.declared.mode.Mode.TheVariants.{Wait};
-ghost use Rattle.graph_runs.specs.phase_accum.declared.outcome.Outcome.{Outcome};
-ghost use Rattle.graph_runs.specs.phase_accum.declared.outcome.Outcome.TheVariants.{Value};
+ghost use Rattle.phase_base.specs.declared.mode.Mode.TheVariants.{Wait};
+ghost use Rattle.phase_accum.specs.declared.outcome.Outcome.{Outcome};
+ghost use Rattle.phase_accum.specs.declared.outcome.Outcome.TheVariants.{Value};
 ghost use Rattle.graph_runs.specs.Moments.{HasRun, TaskRan, HasEnded};
 ghost use Rattle.graph_runs.specs.Moves.{Signals, Waits, Leaves, Registers, PartStays};
 ghost use Rattle.graph_runs.specs.Turned.{IsNextSample, IsNextSignal, IsFirstWait, IsNextLeave};

@@ -1,7 +1,7 @@
 //! A run that meets a value that is too big, and in which a filter makes one.
 ghost use Rattle.std.specs.Prelude.{◌≢◌, None};
-ghost use Rattle.graph_runs.specs.graph_base.declared.place.Place.TheVariants as place;
-ghost use Rattle.graph_runs.specs.stream_lists.Ranges.{first_too_big};
+ghost use Rattle.graph_base.specs.declared.place.Place.TheVariants as place;
+ghost use Rattle.stream_lists.specs.Ranges.{first_too_big};
 ghost use Rattle.graph_runs.specs.Moments.{HasRun};
 ghost use Rattle.graph_runs.specs.Settled.{IsFaultAt};
 ghost use Rattle.worked_runs.specs.WorkedFaults.{faulty, faulty_moment};

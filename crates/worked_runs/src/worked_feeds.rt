@@ -3,8 +3,8 @@ ghost use Rattle.std.specs.Prelude.{◌≡◌, [], ◌∷◌, None, Some, Ok, po
 ghost use Rattle.graph_runs.specs.Answers.{turn_tells, Moved, Blocked};
 ghost use Rattle.graph_runs.specs.Feeds.{call_of, is_starved, hungers, calls};
 ghost use Rattle.graph_runs.specs.Nexts.{registers, samples};
-ghost use Rattle.graph_runs.specs.stream_lists.Jobs.{with_samples};
-ghost use Rattle.graph_runs.specs.stream_lists.Ranges.{answer_of};
+ghost use Rattle.stream_lists.specs.Jobs.{with_samples};
+ghost use Rattle.stream_lists.specs.Ranges.{answer_of};
 ghost use Rattle.worked_runs.specs.WorkedFeeds.{all_open, one_of_b, one_taken, two_of_b, helped_once, before_the_child, behind_the_child};
 
 /// With one sample of b the list of out is 11 2 3, and with two it is 11 22 3: neither begins the

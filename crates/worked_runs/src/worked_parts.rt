@@ -1,7 +1,7 @@
 //! The peer of the worked run alone, by the laws of parts: from its beginning to where it owes its
 //! value on Y.
 ghost use Rattle.std.specs.Prelude.{pos, [], ◌∷◌};
-ghost use Rattle.graph_runs.specs.phase_history.declared.event.Event.TheVariants.{Waited};
+ghost use Rattle.phase_history.specs.declared.event.Event.TheVariants.{Waited};
 ghost use Rattle.graph_runs.specs.Moments.{Moment};
 ghost use Rattle.graph_runs.specs.Parts.{AreNextValues};
 ghost use Rattle.worked_runs.specs.Worked.{worked};

@@ -2,13 +2,13 @@
 //! functions make no call and have no effect: what a law says of the run is the contract here.
 ghost use Rattle.std.specs.Prelude.{◌≡◌, ◌<◌, ℕ, List, [], ◌∷◌, Ok, pos, length};
 ghost use mathlib.Core.List.{IsPrefix};
-ghost use Rattle.graph_runs.specs.phase_history.Phases.{stream_of};
-ghost use Rattle.graph_runs.specs.graph_base.Graphs.{task_at};
-ghost use Rattle.graph_runs.specs.graph_base.TaskLines.{IsGraph};
-ghost use Rattle.graph_runs.specs.stream_lists.Jobs.{Job};
-ghost use Rattle.graph_runs.specs.stream_lists.Lists.{list_of_phaser, numbers_of, taken_from};
-ghost use Rattle.graph_runs.specs.stream_lists.Ranges.{answer_of};
-ghost use Rattle.graph_runs.specs.stream_lists.Spans.{span_in};
+ghost use Rattle.phase_history.specs.Phases.{stream_of};
+ghost use Rattle.graph_base.specs.Graphs.{task_at};
+ghost use Rattle.graph_base.specs.TaskLines.{IsGraph};
+ghost use Rattle.stream_lists.specs.Jobs.{Job};
+ghost use Rattle.stream_lists.specs.Lists.{list_of_phaser, numbers_of, taken_from};
+ghost use Rattle.stream_lists.specs.Ranges.{answer_of};
+ghost use Rattle.stream_lists.specs.Spans.{span_in};
 ghost use Rattle.graph_runs.specs.Moments.{Moment, HasRun, IsOver, HasMetNone, value_at, started};
 ghost use Rattle.graph_runs.specs.Settled.{Stands, PutsOut};
 ghost use Rattle.worked_runs.specs.Runs.{TaskEvent, AreNext, HasRunThrough};

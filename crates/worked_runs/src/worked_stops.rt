@@ -5,7 +5,7 @@ ghost use Rattle.graph_runs.specs.Feeds.{IsFed, call_of, hungers};
 ghost use Rattle.graph_runs.specs.Moments.{Moment, HasRun};
 ghost use Rattle.graph_runs.specs.Settled.{IsReady};
 ghost use Rattle.graph_runs.specs.Stops.{IsStop, IsFedStop, IsRightFor};
-ghost use Rattle.graph_runs.specs.stream_lists.Jobs.{with_samples};
+ghost use Rattle.stream_lists.specs.Jobs.{with_samples};
 ghost use Rattle.worked_runs.specs.WorkedStops.{stopped, stopped_ends, as_a_knows, a_saw, a_has_ended, came, unfed};
 
 use graph_runs::{stops, turns};

@@ -1,6 +1,6 @@
 //! The table of turns at the worked runs: what each turn makes, and what it tells.
 ghost use Rattle.std.specs.Prelude.{◌≡◌, ◌≢◌, ℕ, [], ◌∷◌, Some, None, IsSome, Ok, map, pos, true, false};
-ghost use Rattle.graph_runs.specs.graph_base.declared.place.Place.TheVariants as place;
+ghost use Rattle.graph_base.specs.declared.place.Place.TheVariants as place;
 ghost use Rattle.graph_runs.specs.Moments.{HasRun};
 ghost use Rattle.graph_runs.specs.TaskEvents.{IsNext, sample};
 ghost use Rattle.graph_runs.specs.Answers.{answers_in_turn, makes, turn_tells, is_stalled, answer_of_turn, after_answer, after_turns, is_refused, Moved, Ended, Blocked, Gone, TooBig};

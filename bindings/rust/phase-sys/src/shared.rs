@@ -1,5 +1,8 @@
 //! The calls of `phase_shared.h`.
-use core::{ffi::c_void, ptr};
+use core::{
+    ffi::{c_char, c_void},
+    ptr,
+};
 
 /// What the library has of a registration.
 #[repr(C)]
@@ -46,6 +49,9 @@ pub struct PhaseMemberCounts {
 /// As many nanoseconds as it takes.
 pub const PHASE_FOR_EVER: u64 = u64::MAX;
 
+/// How many bytes the text of `phase_shared_lacks` has at most.
+pub const PHASE_LACKS_MAX: usize = 512;
+
 /// The place of a registration, which has none while it is `NONE`.
 #[repr(C)]
 #[derive(Debug)]
@@ -66,8 +72,16 @@ pub struct PhaseRegistration {
     pub soon: u32,
     /// Whether others want the processor.
     pub crowded: u64,
+    /// How many phases others' turns made for it.
+    pub answers: u64,
+    /// Whether an ask stands, or what came of it is still to be got.
+    pub asks: u32,
+    /// What came of it.
+    pub outcome: i32,
+    /// And the value.
+    pub kept: i64,
     /// Nothing: threads do not write beside each other's in an array.
-    pub apart: [u64; 8],
+    pub apart: [u64; 5],
 }
 
 impl PhaseRegistration {
@@ -81,7 +95,11 @@ impl PhaseRegistration {
         mode: 0,
         soon: 0,
         crowded: 0,
-        apart: [0; 8],
+        answers: 0,
+        asks: 0,
+        outcome: 0,
+        kept: 0,
+        apart: [0; 5],
     };
 }
 
@@ -317,6 +335,14 @@ unsafe extern "C" {
     ) -> i32;
 
     /// # Safety
+    /// As of `phase_shared_new`.
+    pub fn phase_shared_lacks(
+        registration: *mut PhaseRegistration,
+        text: *mut c_char,
+        text_len: usize,
+    ) -> i32;
+
+    /// # Safety
     /// As of `phase_shared_new`, but that another call on the place may be running, if that does
     /// not end the registration.
     pub fn phase_shared_close(registration: *const PhaseRegistration) -> i32;
@@ -399,6 +425,10 @@ unsafe extern "C" {
         registration: *mut PhaseRegistration,
         standing: *mut PhaseMemberStanding,
     ) -> i32;
+
+    /// # Safety
+    /// As of `phase_shared_new`.
+    pub fn phase_shared_answers(registration: *const PhaseRegistration, answers: *mut u64) -> i32;
 
     /// # Safety
     /// As of `phase_shared_new`.

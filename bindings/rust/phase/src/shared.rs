@@ -59,9 +59,9 @@
 //!
 //! The plain one waits as long as it takes, and is refused neither as `Ahead` nor as `NotYet`. The
 //! one with `_for` tries for so long, or a little longer, and may be refused so, also where other
-//! calls on the phaser were in the middle all the time. The one with `try_` tries once: it may be
-//! refused so, too, and it alone as `Busy`, while another call is in the middle. Any refusal leaves
-//! the registration as it was.
+//! calls on the phaser were in the middle all the time; its [`Refused`] names who is missing. The
+//! one with `try_` tries once: it may be refused so, too, and it alone as `Busy`, while another
+//! call is in the middle. Any refusal leaves the registration as it was.
 //!
 //! # When a thread fails
 //!
@@ -78,7 +78,7 @@
 //! let works = |mut own: Registration<SigWait>, breaks: bool| {
 //!     for step in 0..1000 {
 //!         assert!(!breaks || step < 3, "it fails in step 3");
-//!         let Next::Value(_) = own.next_or_closed(&[step], None)? else { break };
+//!         let Next::Value(_) = own.next_or_closed(&[step], None, None)? else { break };
 //!     }
 //!     Ok::<(), PhaserError>(())
 //! };
@@ -125,6 +125,11 @@ pub enum Next {
     Value(PhaseValue),
     /// The phase is signalled, and a wait has still to get it.
     Signalled(u64),
+    /// Others were asked to signal the phase, and the turn was not had since to see whether they
+    /// did: it comes to calls with a time limit alone. The next wait is told what came of it: the
+    /// phase, or what its signal was refused as, also as `Ahead`, and then nothing was sent. Until
+    /// then a signal is refused as `SignalTwice`.
+    Asked(u64),
 }
 
 /// A registration on a phaser between threads, in the mode `M`.
@@ -290,6 +295,16 @@ impl<M: mode::Mode> Registration<M> {
         debug_assert_eq!(status, PHASE_OK);
         (complete, got)
     }
+
+    /// Returns how many phases of `next` and its other forms others' turns made for it: it asked
+    /// for them, and took no turn for the answer.
+    pub fn answers(&self) -> u64 {
+        let mut answers = 0;
+        // SAFETY: as in `standing_at`.
+        let status = unsafe { phase_shared_answers(self.place.get(), &mut answers) };
+        debug_assert_eq!(status, PHASE_OK);
+        answers
+    }
 }
 
 /// A call of C that signals; where it is one for some time, that is within.
@@ -300,12 +315,12 @@ macro_rules! signals {
         let (values, count) = ($values.as_ptr(), $values.len());
         // SAFETY: the place has a registration of this thread, the pointer and length are those of
         // one slice, and the rest are values of this function.
-        done(unsafe {
+        let status = unsafe {
             $call(
                 $self.place.get(), values, count, single, low, high, &mut phase $(, $nanoseconds)?
             )
-        })?;
-        Ok(phase)
+        };
+        done(status).map(|()| phase)
     }};
 }
 
@@ -353,8 +368,8 @@ impl<M: Signals> Registration<M> {
         values: &[i64],
         single: Option<Single>,
         time: Duration,
-    ) -> Result<u64, PhaserError> {
-        signals!(self, phase_shared_signal_for, values, single, nanoseconds(time))
+    ) -> Result<u64, Refused> {
+        self.in_time(signals!(self, phase_shared_signal_for, values, single, nanoseconds(time)))
     }
 
     /// Signals as many phases in a row as there are values, with one send each and the single or
@@ -406,8 +421,14 @@ impl<M: Signals> Registration<M> {
         values: &[i64],
         single: Option<Single>,
         time: Duration,
-    ) -> Result<u64, PhaserError> {
-        signals!(self, phase_shared_signal_block_for, values, single, nanoseconds(time))
+    ) -> Result<u64, Refused> {
+        self.in_time(signals!(
+            self,
+            phase_shared_signal_block_for,
+            values,
+            single,
+            nanoseconds(time)
+        ))
     }
 }
 
@@ -445,7 +466,8 @@ impl<M: Waits> Registration<M> {
     ///
     /// # Errors
     ///
-    /// It is refused as `SignalFirst` where it signals too, and has not since its last wait.
+    /// It is refused as `SignalFirst` where it signals too, and has not since its last wait; and
+    /// behind a `Next::Asked` as its signal is.
     ///
     /// # Example
     ///
@@ -485,11 +507,13 @@ impl<M: Waits> Registration<M> {
     /// use std::time::Duration;
     /// let mut founder = Registration::founder(Operation::Sum, 2, 100)?;
     /// let mut waiter = founder.register::<Wait>()?;
-    /// assert_eq!(waiter.wait_for(Duration::from_millis(1)), Err(PhaserError::NotYet));
+    /// let refused = waiter.wait_for(Duration::from_millis(1)).unwrap_err();
+    /// assert_eq!(refused.why, PhaserError::NotYet);
+    /// assert_eq!(refused.to_string(), "the phase is not complete: phase 0 lacks the signal of 0");
     /// # Ok::<(), PhaserError>(())
     /// ```
-    pub fn wait_for(&mut self, time: Duration) -> Result<Got, PhaserError> {
-        waits!(self, phase_shared_wait_for, nanoseconds(time))
+    pub fn wait_for(&mut self, time: Duration) -> Result<Got, Refused> {
+        self.in_time(waits!(self, phase_shared_wait_for, nanoseconds(time)))
     }
 
     /// Gets the phase and those behind it that are complete, at most as many as there are places,
@@ -537,8 +561,8 @@ impl<M: Waits> Registration<M> {
         &mut self,
         values: &mut [i64],
         time: Duration,
-    ) -> Result<GotBlock, PhaserError> {
-        waits_for_block!(self, phase_shared_wait_block_for, values, nanoseconds(time))
+    ) -> Result<GotBlock, Refused> {
+        self.in_time(waits_for_block!(self, phase_shared_wait_block_for, values, nanoseconds(time)))
     }
 
     /// Registers a child that waits, at the first phase that is not complete, and returns it with
@@ -600,6 +624,7 @@ macro_rules! goes_next {
         match status {
             PHASE_OK => Ok(Next::Value(PhaseValue { phase, value: value_of(value) })),
             PHASE_SIGNALLED => Ok(Next::Signalled(phase)),
+            PHASE_ASKED => Ok(Next::Asked(phase)),
             status => Err(phaser_error::of(status)),
         }
     }};
@@ -629,7 +654,7 @@ impl<M: Signals + Waits> Registration<M> {
     ) -> Result<PhaseValue, PhaserError> {
         match goes_next!(self, phase_shared_next, values, single)? {
             Next::Value(got) => Ok(got),
-            Next::Signalled(_) => unreachable!("libphase came back before the phase was complete"),
+            _ => unreachable!("libphase came back before the phase was complete"),
         }
     }
 
@@ -646,7 +671,7 @@ impl<M: Signals + Waits> Registration<M> {
         goes_next!(self, phase_shared_try_next, values, single)
     }
 
-    /// The same, tried for so long. Then it is refused, or is `Signalled`.
+    /// The same, tried for so long. Then it is refused, or is `Signalled` or `Asked`.
     ///
     /// # Errors
     ///
@@ -670,14 +695,14 @@ impl<M: Signals + Waits> Registration<M> {
         values: &[i64],
         single: Option<Single>,
         time: Duration,
-    ) -> Result<Next, PhaserError> {
-        goes_next!(self, phase_shared_next_for, values, single, nanoseconds(time))
+    ) -> Result<Next, Refused> {
+        self.in_time(goes_next!(self, phase_shared_next_for, values, single, nanoseconds(time)))
     }
 }
 
 mod ends;
 
-pub use ends::Counts;
+pub use ends::{Counts, Refused};
 
 /// Its phases, in order, until no more will come. Each is waited for.
 impl Iterator for Registration<mode::Wait> {

@@ -2,13 +2,18 @@
 //! threads wait in each call that heeds it, a thread that panics, and what is got of a phaser that
 //! is closed.
 use phase::shared::mode::{Mode, Sig, SigWait, Single, Wait};
-use phase::shared::{Counts, Next, PhaseValue, Registration};
+use phase::shared::{Counts, Next, PhaseValue, Refused, Registration};
 use phase::{Got, GotBlock, Operation, PhaserError};
 use std::sync::mpsc;
 use std::thread;
 use std::time::{Duration, Instant};
 
 const MILLISECOND: Duration = Duration::from_millis(1);
+
+/// Whether a call with a time limit was refused so.
+fn is_refused<T>(told: Result<T, Refused>, why: PhaserError) -> bool {
+    told.is_err_and(|it| it.why == why)
+}
 
 fn sums(bound: u64, phases: u64) -> Registration<Single> {
     Registration::founder(Operation::Sum, bound, phases).unwrap()
@@ -32,8 +37,8 @@ fn one_never_signals() {
                 continue;
             }
             threads.push(scope.spawn(move || {
-                let next = own.next_or_closed(&[1], None);
-                (next, own.wait_or_closed(), own)
+                let next = own.next_or_closed(&[1], None, None);
+                (next, own.wait_or_closed(None), own)
             }));
         }
         while waiter.standing().signalled < 3 {
@@ -47,12 +52,14 @@ fn one_never_signals() {
         for it in threads {
             let (next, wait, it) = it.join().unwrap();
             assert_eq!(next, Ok(Next::Signalled(0)));
-            assert_eq!(wait, Err(PhaserError::Closed));
+            let refused = wait.unwrap_err();
+            assert_eq!(refused.to_string(), "the phaser is closed: phase 0 lacks the signal of 3");
+            assert_eq!(PhaserError::from(refused), PhaserError::Closed);
             own.push(it);
         }
-        assert_eq!(silent.take().unwrap().signal_or_closed(&[1], None), Ok(0));
+        assert_eq!(silent.take().unwrap().signal_or_closed(&[1], None, None), Ok(0));
         let got = Got::Value { phase: 0, value: Some(4) };
-        assert_eq!(waiter.wait_or_closed(), Ok(got));
+        assert_eq!(waiter.wait_or_closed(None), Ok(got));
         assert_eq!(own[0].wait(), Ok(got));
     });
 }
@@ -95,13 +102,14 @@ fn a_close_ends_waits() {
     ends_soon(|threads| {
         let mut founder = sums(2, 100);
         let own = (0..threads).map(|_| founder.register::<Wait>().unwrap()).collect();
-        closes(own, &founder, |own| own.wait_or_closed() == Err(PhaserError::Closed))
+        closes(own, &founder, |own| is_refused(own.wait_or_closed(None), PhaserError::Closed))
     });
     ends_soon(|threads| {
         let mut founder = sums(2, 100);
         let own = (0..threads).map(|_| founder.register::<Wait>().unwrap()).collect();
-        let none = Err(PhaserError::Closed);
-        closes(own, &founder, move |own| own.wait_block_or_closed(&mut [0, 0]) == none)
+        closes(own, &founder, |own| {
+            is_refused(own.wait_block_or_closed(&mut [0, 0], None), PhaserError::Closed)
+        })
     });
 }
 
@@ -111,16 +119,16 @@ fn a_close_ends_signals() {
         let mut founder = sums(1, 100);
         let own = (0..threads).map(|_| founder.register::<Sig>().unwrap()).collect();
         closes(own, &founder, |own| {
-            own.signal_or_closed(&[1], None) == Ok(0)
-                && own.signal_or_closed(&[1], None) == Err(PhaserError::Closed)
+            own.signal_or_closed(&[1], None, None) == Ok(0)
+                && is_refused(own.signal_or_closed(&[1], None, None), PhaserError::Closed)
         })
     });
     ends_soon(|threads| {
         let mut founder = sums(2, 100);
         let own = (0..threads).map(|_| founder.register::<Sig>().unwrap()).collect();
         closes(own, &founder, |own| {
-            own.signal_block_or_closed(&[1, 1], None) == Ok(0)
-                && own.signal_block_or_closed(&[1, 1], None) == Err(PhaserError::Closed)
+            own.signal_block_or_closed(&[1, 1], None, None) == Ok(0)
+                && is_refused(own.signal_block_or_closed(&[1, 1], None, None), PhaserError::Closed)
         })
     });
 }
@@ -130,7 +138,7 @@ fn a_close_ends_next_phases() {
     ends_soon(|threads| {
         let mut founder = sums(2, 100);
         let own = (0..threads).map(|_| founder.register::<SigWait>().unwrap()).collect();
-        closes(own, &founder, |own| own.next_or_closed(&[1], None) == Ok(Next::Signalled(0)))
+        closes(own, &founder, |own| own.next_or_closed(&[1], None, None) == Ok(Next::Signalled(0)))
     });
 }
 
@@ -149,7 +157,7 @@ fn a_thread_that_panics_closes() {
             thread::spawn(move || {
                 for step in 0..1000 {
                     assert!(at != 2 || step < 3, "it fails, as it should");
-                    match own.next_or_closed(&[step], None) {
+                    match own.next_or_closed(&[step], None, None) {
                         Ok(Next::Value(_)) if !own.is_closed() => (),
                         _ => return step,
                     }
@@ -194,18 +202,53 @@ fn nothing_is_lost() {
     assert_eq!(signaller.signal(&[5], None), Ok(0));
     signaller.close();
     signaller.close();
-    assert_eq!(signaller.signal_or_closed(&[6], None), Ok(1));
-    assert_eq!(signaller.signal_or_closed(&[7], None), Err(PhaserError::Closed));
-    assert_eq!(waiter.wait_or_closed(), Ok(Got::Value { phase: 0, value: Some(5) }));
+    assert_eq!(signaller.signal_or_closed(&[6], None, None), Ok(1));
+    assert!(is_refused(signaller.signal_or_closed(&[7], None, None), PhaserError::Closed));
+    assert_eq!(waiter.wait_or_closed(None), Ok(Got::Value { phase: 0, value: Some(5) }));
     let mut values = [0; 2];
     let both = GotBlock::Values { phase: 0, count: 2 };
-    assert_eq!(blocks.wait_block_or_closed(&mut values), Ok(both));
+    assert_eq!(blocks.wait_block_or_closed(&mut values, None), Ok(both));
     assert_eq!(values, [5, 6]);
-    assert_eq!(blocks.wait_block_or_closed(&mut values), Err(PhaserError::Closed));
+    assert!(is_refused(blocks.wait_block_or_closed(&mut values, None), PhaserError::Closed));
     // A call that does not heed it waits.
-    assert_eq!(blocks.wait_for(MILLISECOND), Err(PhaserError::NotYet));
+    assert!(is_refused(blocks.wait_for(MILLISECOND), PhaserError::NotYet));
     drop(signaller);
-    assert_eq!(waiter.wait_or_closed(), Ok(Got::Value { phase: 1, value: Some(6) }));
-    assert_eq!(waiter.wait_or_closed(), Ok(Got::Ended));
+    assert_eq!(waiter.wait_or_closed(None), Ok(Got::Value { phase: 1, value: Some(6) }));
+    assert_eq!(waiter.wait_or_closed(None), Ok(Got::Ended));
     assert_eq!(PhaserError::Closed.to_string(), "the phaser is closed");
 }
+
+/// Calls that heed a close have a time limit, too, at which they name who is missing.
+#[test]
+fn a_limit_beside_a_close() {
+    let mut founder = sums(1, 100);
+    let mut waiter = founder.register::<Wait>().unwrap();
+    let mut signaller = founder.register::<Sig>().unwrap();
+    let soon = Some(MILLISECOND);
+    let lacks = |told: Refused, why, words| {
+        assert_eq!((told.why, told.lacks.as_str()), (why, words));
+    };
+    lacks(waiter.wait_or_closed(soon).unwrap_err(), PhaserError::NotYet, LACKS_TWO);
+    lacks(waiter.wait_block_or_closed(&mut [0], soon).unwrap_err(), PhaserError::NotYet, LACKS_TWO);
+    assert_eq!(signaller.signal_or_closed(&[5], None, soon), Ok(0));
+    let ahead = PhaserError::Ahead;
+    lacks(signaller.signal_or_closed(&[5], None, soon).unwrap_err(), ahead, LACKS_ONE);
+    lacks(signaller.signal_block_or_closed(&[5], None, soon).unwrap_err(), ahead, LACKS_ONE);
+    drop(signaller);
+    assert_eq!(
+        founder.next_or_closed(&[4], None, soon),
+        Ok(Next::Value(PhaseValue { phase: 0, value: Some(9) }))
+    );
+    // The waiter has not got phase 0, and so phase 1 is ahead of it. Nobody has signalled that.
+    lacks(founder.next_or_closed(&[4], None, soon).unwrap_err(), ahead, LACKS_NEXT);
+    // What is refused for another reason names nobody.
+    lacks(
+        founder.signal_or_closed(&[i64::MIN], None, soon).unwrap_err(),
+        PhaserError::BadValue,
+        "",
+    );
+}
+
+const LACKS_TWO: &str = "phase 0 lacks the signal of 0, 2";
+const LACKS_ONE: &str = "phase 0 lacks the signal of 0";
+const LACKS_NEXT: &str = "phase 1 lacks the signal of 0";

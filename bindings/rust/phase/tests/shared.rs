@@ -1,7 +1,7 @@
 //! What threads get from a phaser, beside values worked out by hand: barriers, streams and blocks,
 //! time limits, those that leave or panic while others wait, and threads that come and go.
 use phase::shared::mode::{Mode, Sig, SigWait, Signals, Single, Wait, Waits};
-use phase::shared::{Next, PhaseValue, Registration};
+use phase::shared::{Next, PhaseValue, Refused, Registration};
 use phase::{Got, GotBlock, Operation, PhaserError, Single as Once, Standing};
 use std::collections::BTreeMap;
 use std::sync::atomic::{AtomicI64, AtomicU64, Ordering::Relaxed};
@@ -9,6 +9,11 @@ use std::thread::{self, Scope};
 use std::time::{Duration, Instant};
 
 const MILLISECOND: Duration = Duration::from_millis(1);
+
+/// What a call with a time limit was answered, without who is missing.
+fn why<T>(told: Result<T, Refused>) -> Result<T, PhaserError> {
+    told.map_err(PhaserError::from)
+}
 
 fn sums(bound: u64, phases: u64) -> Registration<Single> {
     Registration::founder(Operation::Sum, bound, phases).unwrap()
@@ -52,6 +57,23 @@ fn threads_meet() {
             });
         }
     }
+}
+
+#[test]
+fn others_turns_make_most_phases() {
+    let mut founder = sums(2, 2000);
+    let mut child = founder.register::<SigWait>().unwrap();
+    assert_eq!((founder.answers(), child.answers()), (0, 0));
+    let answers = thread::scope(|scope| {
+        let other = scope.spawn(move || {
+            (0..2000).for_each(|at| assert!(child.next(&[at], None).is_ok()));
+            child.answers()
+        });
+        (0..2000).for_each(|at| assert!(founder.next(&[at], None).is_ok()));
+        founder.answers() + other.join().unwrap()
+    });
+    // Where there is one processor nobody asks.
+    assert_eq!(answers > 1000, thread::available_parallelism().unwrap().get() > 1);
 }
 
 #[test]
@@ -124,12 +146,12 @@ fn a_next_whose_time_passed_leaves_its_signal() {
         assert_eq!(founder.told(), (0, 0));
         assert_eq!(founder.next(&[4], None).unwrap_err(), twice);
         assert_eq!(founder.try_next(&[4], None).unwrap_err(), twice);
-        assert_eq!(founder.next_for(&[4], None, MILLISECOND).unwrap_err(), twice);
+        assert_eq!(why(founder.next_for(&[4], None, MILLISECOND)).unwrap_err(), twice);
         assert_eq!(founder.signal(&[4], None).unwrap_err(), twice);
         assert_eq!(founder.try_signal(&[4], None).unwrap_err(), twice);
         assert_eq!(founder.signal_block(&[4, 5], None).unwrap_err(), twice);
         assert_eq!(founder.try_wait(), Err(PhaserError::NotYet));
-        assert_eq!(founder.wait_for(MILLISECOND), Err(PhaserError::NotYet));
+        assert_eq!(why(founder.wait_for(MILLISECOND)), Err(PhaserError::NotYet));
         assert_eq!(founder.try_wait_block(&mut [0; 2]), Err(PhaserError::NotYet));
         let mut child = founder.register::<SigWait>().unwrap();
         assert_eq!((child.view().signal_phase, child.view().wait_phase), (1, 0));
@@ -153,7 +175,7 @@ fn a_time_ends_a_wait() {
     let mut other = founder.register::<Sig>().unwrap();
     let since = Instant::now();
     assert_eq!(founder.next_for(&[4], None, 20 * MILLISECOND), Ok(Next::Signalled(0)));
-    assert_eq!(founder.wait_for(20 * MILLISECOND), Err(PhaserError::NotYet));
+    assert_eq!(why(founder.wait_for(20 * MILLISECOND)), Err(PhaserError::NotYet));
     assert!(since.elapsed() >= 40 * MILLISECOND);
     assert_eq!(founder.try_wait(), Err(PhaserError::NotYet));
     assert_eq!(founder.signal(&[4], None), Err(PhaserError::SignalTwice));
@@ -166,12 +188,12 @@ fn a_time_ends_a_wait() {
         assert_eq!(value, Ok(Got::Value { phase: 0, value: Some(9) }));
     });
     assert_eq!(other.signal(&[5], None), Ok(1));
-    assert_eq!(other.signal_for(&[5], None, MILLISECOND), Err(PhaserError::Ahead));
-    assert_eq!(other.signal_block_for(&[5], None, MILLISECOND), Err(PhaserError::Ahead));
+    assert_eq!(why(other.signal_for(&[5], None, MILLISECOND)), Err(PhaserError::Ahead));
+    assert_eq!(why(other.signal_block_for(&[5], None, MILLISECOND)), Err(PhaserError::Ahead));
     assert_eq!(other.try_signal(&[5], None), Err(PhaserError::Ahead));
     assert_eq!(other.try_signal_block(&[5], None), Err(PhaserError::Ahead));
     assert_eq!(founder.try_next(&[1], None), Ok(Next::Value(got(1, 6))));
-    assert_eq!(founder.wait_block_for(&mut [0], MILLISECOND), Err(PhaserError::SignalFirst));
+    assert_eq!(why(founder.wait_block_for(&mut [0], MILLISECOND)), Err(PhaserError::SignalFirst));
     assert_eq!(founder.try_wait_block(&mut [0]), Err(PhaserError::SignalFirst));
 }
 
@@ -281,7 +303,7 @@ impl Step for Registration<SigWait> {
             churn.note_sent(self.signal(&[1], None)?);
             return Ok(churn.note_got(self.wait()?));
         }
-        match self.next_for(&[1], None, Duration::from_micros(seed % 40)) {
+        match why(self.next_for(&[1], None, Duration::from_micros(seed % 40))) {
             Err(PhaserError::Ahead) => Ok(true),
             Err(why) => Err(why),
             Ok(Next::Value(PhaseValue { phase, value })) => {
@@ -292,6 +314,14 @@ impl Step for Registration<SigWait> {
                 churn.note_sent(phase);
                 Ok(churn.note_got(self.wait()?))
             }
+            Ok(Next::Asked(phase)) => match self.wait() {
+                Err(PhaserError::Ahead) => Ok(true),
+                Err(why) => Err(why),
+                Ok(got) => {
+                    churn.note_sent(phase);
+                    Ok(churn.note_got(got))
+                }
+            },
         }
     }
 

@@ -1,21 +1,21 @@
 //! A run of the program over any outputs and files.
 ghost use Rattle.std.specs.Prelude.{◌≡◌, false};
 ghost use Rattle.phase.specs.Ends.{AskNoCounts, EndsAsRun, MayEndAsRun, TellsCounts};
-ghost use Rattle.phase_eval.specs.phase_words.Answers.{AnswerEnds, MayEnd, Wrote, WroteIfBegun};
-ghost use Rattle.phase_eval.specs.phase_words.CommandLine.{texts};
-ghost use Rattle.phase_eval.specs.phase_words.RunLine.{AreRunTaken, AsksRun, Run, run_kinds_of, run_of};
-ghost use Rattle.stream_workers.specs.graph_commands.Explained.{AreFurtherLines};
-ghost use Rattle.stream_workers.specs.graph_commands.watched_io.States.{writer_state};
+ghost use Rattle.phase_words.specs.Answers.{AnswerEnds, MayEnd, Wrote, WroteIfBegun};
+ghost use Rattle.phase_words.specs.CommandLine.{texts};
+ghost use Rattle.phase_words.specs.RunLine.{AreRunTaken, AsksRun, Run, run_kinds_of, run_of};
+ghost use Rattle.graph_commands.specs.Explained.{AreFurtherLines};
+ghost use Rattle.watched_io.specs.States.{writer_state};
 
 use crate::run::graph_run::run;
-use phase_eval::phase_words::{RunCall, answer, read_run_words};
+use graph_commands::{LooksBeside, Refuses, look_by, report, tell_bytes};
+use phase_words::{RunCall, answer, read_run_words};
 use std::alloc::Global;
 use std::io::Write;
 use std::sync::Wait;
 use std::thread::Threads;
 use std::time::Clock;
-use stream_workers::graph_commands::watched_io::{Files, Status, Streams, Watched};
-use stream_workers::graph_commands::{LooksBeside, Refuses, look_by, report, tell_bytes};
+use watched_io::{Files, Status, Streams, Watched};
 
 /// Runs the program on its words, those behind `phase run`, and answers its status: `Done` where
 /// the graph was run, or help or the version was shown, `GraphRefused` where the graph or its

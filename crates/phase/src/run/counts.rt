@@ -1,15 +1,15 @@
 //! What each task of a run did: its steps, where it waited, and its share of the workers' time.
 ghost use Rattle.std.specs.Prelude.{◌<◌, length};
-ghost use Rattle.stream_workers.specs.graph_commands.Explained.{AreFurtherLines};
+ghost use Rattle.graph_commands.specs.Explained.{AreFurtherLines};
 
+use graph_commands::further_lines;
+use graph_lang::Place;
 use itoa::Buffer;
 use std::alloc::{AllocError, Global};
 use std::sync::atomic::AtomicU64;
 use std::sync::atomic::Ordering::Relaxed;
 use std::time::{Clock, Instant};
-use stream_workers::graph_commands::further_lines;
-use stream_workers::graph_commands::graph_lang::Place;
-use stream_workers::graph_commands::stream_lists::{Job, input_number};
+use stream_lists::{Job, input_number};
 use stream_workers::{Gate, Watch, Went};
 
 /// What one task did so far.

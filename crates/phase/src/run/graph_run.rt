@@ -1,24 +1,24 @@
 //! A run of a graph.
 ghost use Rattle.std.specs.Prelude.{◌≡◌, ℕ, List, Option, OnOk, IfOk, IfErr};
-ghost use Rattle.stream_workers.specs.graph_commands.Explained.{AreFurtherLines};
-ghost use Rattle.stream_workers.specs.graph_commands.FileJobs.{IsJobOf, Known};
-ghost use Rattle.stream_workers.specs.graph_commands.GraphRuns.{AsksSink};
+ghost use Rattle.graph_commands.specs.Explained.{AreFurtherLines};
+ghost use Rattle.graph_commands.specs.FileJobs.{IsJobOf, Known};
+ghost use Rattle.graph_commands.specs.GraphRuns.{AsksSink};
 ghost use Rattle.phase.specs.Runs.{RunFails, Runs};
-ghost use Rattle.phase_eval.specs.phase_words.RunLine.{run_of};
-ghost use Rattle.stream_workers.specs.graph_commands.watched_io.States.{writer_state};
+ghost use Rattle.phase_words.specs.RunLine.{run_of};
+ghost use Rattle.watched_io.specs.States.{writer_state};
 
 use crate::run::counts::Counts;
+use graph_commands::{AskedJob, Failure, read_asked, stall_told, write_sinks};
 use phase_eval::ByThreads;
-use phase_eval::phase_words::{Explain, RunCall};
+use phase_words::{Explain, RunCall};
 use std::alloc::Global;
 use std::io::Write;
 use std::sync::Wait;
 use std::thread::Threads;
 use std::time::Clock;
-use stream_workers::graph_commands::stream_lists::Job;
-use stream_workers::graph_commands::watched_io::{Files, IoFault, Watched};
-use stream_workers::graph_commands::{AskedJob, Failure, read_asked, stall_told, write_sinks};
+use stream_lists::Job;
 use stream_workers::{RunFault, Stand, run_watched};
+use watched_io::{Files, IoFault, Watched};
 
 /// Reads a graph and the samples of its sources, runs it by as many worker threads as the call asks
 /// for, of which the caller's is one, and writes the lists of its sinks, or the values alone of the

@@ -1,10 +1,10 @@
 //! Which statuses come of which words. The contract of the function is the law.
 ghost use Rattle.std.specs.Prelude.{◌≡◌, ◌≢◌, ℕ, List};
 ghost use Rattle.phase.specs.Ends.{MayEndAsRun};
-ghost use Rattle.phase_eval.specs.phase_words.Answers.{MayEnd};
-ghost use Rattle.phase_eval.specs.phase_words.RunLine.{AreRunTaken, run_kinds_of};
+ghost use Rattle.phase_words.specs.Answers.{MayEnd};
+ghost use Rattle.phase_words.specs.RunLine.{AreRunTaken, run_kinds_of};
 
-use stream_workers::graph_commands::watched_io::Status;
+use watched_io::Status;
 
 /// Whatever the words are, those that are taken are not refused, and these alone stall.
 pub fn statuses()

@@ -9,9 +9,9 @@ ghost use Rattle.phase_core.specs.Blocks.{after_in_range, before_too_big, is_not
 ghost use Rattle.phase_core.specs.PlainCores.{values_core, KeepsValues};
 
 use crate::plain::Plain;
-use phase_history::phase_accum::{Accumulate, Outcome};
+use phase_accum::{Accumulate, Outcome};
+use phase_base::Spec;
 use phase_history::{GotBlock, WaitRefusal};
-use phase_registry::phase_base::Spec;
 
 /// How many of the values come before the first that is too big.
 fn count_in_range(values: &[Outcome]) -> usize

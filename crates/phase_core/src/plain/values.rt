@@ -1,12 +1,12 @@
 //! The values of phases that are kept alone: as what a wait writes, and given up.
 ghost use Rattle.std.specs.Prelude.{◌≡◌, ◌+◌, ◌-◌, ◌≤◌, ◌++◌, length, map, take, drop};
-ghost use Rattle.phase_history.specs.phase_accum.Sends.{AreSends};
+ghost use Rattle.phase_accum.specs.Sends.{AreSends};
 ghost use Rattle.phase_core.specs.Plain.{plain_value};
 ghost use Rattle.phase_core.specs.PlainCores.{MayPassValues, HasGoneOn};
 
 use crate::plain::Plain;
-use phase_history::phase_accum::{Accumulate, Outcome};
-use phase_registry::phase_base::Entry;
+use phase_accum::{Accumulate, Outcome};
+use phase_base::Entry;
 
 /// Writes the values of phases of these sends, one each, into the first places.
 fn write_ones<A: Accumulate>(values: &[i64], out: &mut [Outcome])

@@ -1,8 +1,8 @@
 //! Waits where the values are kept alone.
 ghost use Rattle.std.specs.Prelude.{◌≡◌, ℕ, ◌+◌, ◌<◌, ◌≤◌, [], ◌∷◌, Ok, OnErr, IfOk, IfErr, Some, length, take, slice_range};
 ghost use Rattle.std.specs.List.{All};
-ghost use Rattle.phase_history.specs.phase_accum.declared.outcome.Outcome.{Outcome};
-ghost use Rattle.phase_history.specs.phase_accum.Values.{IsInRange};
+ghost use Rattle.phase_accum.specs.declared.outcome.Outcome.{Outcome};
+ghost use Rattle.phase_accum.specs.Values.{IsInRange};
 ghost use Rattle.phase_history.specs.Histories.{History};
 ghost use Rattle.phase_history.specs.Phases.{stream_of};
 ghost use Rattle.phase_history.specs.Refusals.{wait_refusal};
@@ -13,9 +13,9 @@ ghost use Rattle.phase_core.specs.PlainCores.{values_core, KeepsValues, MayGetVa
 
 use crate::plain::Plain;
 use crate::refusal_rows;
-use phase_history::phase_accum::{Accumulate, Outcome};
+use phase_accum::{Accumulate, Outcome};
+use phase_base::{Entry, Spec};
 use phase_history::{Got, GotBlock, WaitRefusal};
-use phase_registry::phase_base::{Entry, Spec};
 
 impl Plain {
     // The entry of a task whose wait for at most so many phases is not refused, or why it is.

@@ -1,6 +1,6 @@
 //! Tasks that join a phaser and leave it.
 ghost use Rattle.std.specs.Prelude.{◌≡◌, ◌≢◌, ◌↔◌, ◌∷◌, Some, None, Err, IsOk, IsSome, OnOk, OnErr, IfOk, IfErr};
-ghost use Rattle.phase_registry.specs.phase_base.Members.{entry_of};
+ghost use Rattle.phase_base.specs.Members.{entry_of};
 ghost use Rattle.phase_history.specs.declared.event.Event.TheVariants.{Registered, RegisteredNow, Dropped};
 ghost use Rattle.phase_history.specs.Histories.{History, done_of};
 ghost use Rattle.phase_history.specs.Refusals.{register_refusal, register_now_refusal};
@@ -8,10 +8,10 @@ ghost use Rattle.phase_core.specs.Cores.{StandsFor};
 ghost use Rattle.phase_core.specs.Admission.{refusal_of_add};
 
 use crate::slot_core::SlotCore;
-use phase_history::phase_accum::Accumulate;
+use phase_accum::Accumulate;
+use phase_base::{Entry, Mode};
 use phase_history::{NoTask, RegisterRefusal};
 use phase_registry::AddRefusal;
-use phase_registry::phase_base::{Entry, Mode};
 
 /// The refusal of a registration whose child was not added.
 fn register_refusal_of(refusal: AddRefusal) -> RegisterRefusal

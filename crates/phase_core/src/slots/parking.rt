@@ -1,8 +1,8 @@
 //! Slots that stand aside while a phaser keeps values alone.
 ghost use Rattle.std.specs.Prelude.{◌≡◌, ℕ, ◌+◌, ◌≤◌, [], ◌++◌, Some, None, true, length};
 ghost use Rattle.std.specs.List.{All};
-ghost use Rattle.phase_registry.specs.phase_base.Members.{entry_of, signal_phases, wait_phases};
-ghost use Rattle.phase_registry.specs.phase_base.Modes.{mode_signals};
+ghost use Rattle.phase_base.specs.Members.{entry_of, signal_phases, wait_phases};
+ghost use Rattle.phase_base.specs.Modes.{mode_signals};
 ghost use Rattle.phase_registry.specs.Rosters.{roster};
 ghost use Rattle.phase_ring.specs.declared.role.Role.{Role};
 ghost use Rattle.phase_ring.specs.declared.role.Role.TheVariants.{Signaller, Waiter};
@@ -14,9 +14,9 @@ ghost use Rattle.phase_ring.specs.Standings.{count_of, phase_for, takes_part};
 ghost use Rattle.phase_core.specs.Plain.{IsPlain, left_roster, plain_core};
 
 use crate::slot_core::SlotCore;
-use phase_history::phase_accum::Accumulate;
+use phase_accum::Accumulate;
+use phase_base::{Entry, MEMBERS_MAX, Member};
 use phase_registry::Registry;
-use phase_registry::phase_base::{Entry, MEMBERS_MAX, Member};
 use phase_ring::Board;
 use std::mem;
 

@@ -1,7 +1,7 @@
 //! Signals on a phaser, of one phase and of phases in a row.
 ghost use Rattle.std.specs.Prelude.{◌≡◌, ℕ, ℤ, List, [], ◌∷◌, OnErr, IfOk, IfErr, Ok, Err};
-ghost use Rattle.phase_history.specs.phase_accum.Parcels.{StandsForSends};
-ghost use Rattle.phase_history.specs.phase_accum.Singles.{CanBeNamed};
+ghost use Rattle.phase_accum.specs.Parcels.{StandsForSends};
+ghost use Rattle.phase_accum.specs.Singles.{CanBeNamed};
 ghost use Rattle.phase_history.specs.Histories.{History};
 ghost use Rattle.phase_history.specs.Replies.{signal_reply, after_signal};
 ghost use Rattle.phase_core.specs.Cores.{StandsFor};
@@ -10,8 +10,8 @@ ghost use Rattle.phase_core.specs.Blocks.{StandForLists};
 use crate::list_refusals::{list_refusal, lists_refusal};
 use crate::refusal_rows;
 use crate::slot_core::SlotCore;
+use phase_accum::{Accumulate, Pending, Single};
 use phase_history::SignalRefusal;
-use phase_history::phase_accum::{Accumulate, Pending, Single};
 
 /// Reads a clamp's range, which says that its ends are one. It does nothing.
 pub(crate) fn check_single(single: &Option<Single>)

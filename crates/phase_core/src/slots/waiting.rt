@@ -1,8 +1,8 @@
 //! Waits on a phaser, for one phase and for phases in a row.
 ghost use Rattle.std.specs.Prelude.{◌≡◌, ℕ, ◌+◌, ◌<◌, ◌≤◌, [], ◌∷◌, OnErr, Ok, length, take, slice_range};
 ghost use Rattle.std.specs.List.{All};
-ghost use Rattle.phase_history.specs.phase_accum.declared.outcome.Outcome.{Outcome};
-ghost use Rattle.phase_history.specs.phase_accum.Values.{IsInRange};
+ghost use Rattle.phase_accum.specs.declared.outcome.Outcome.{Outcome};
+ghost use Rattle.phase_accum.specs.Values.{IsInRange};
 ghost use Rattle.phase_history.specs.Histories.{History};
 ghost use Rattle.phase_history.specs.Phases.{stream_of};
 ghost use Rattle.phase_history.specs.Replies.{wait_reply, after_wait, wait_block_reply, after_wait_block};
@@ -11,7 +11,7 @@ ghost use Rattle.phase_core.specs.Blocks.{written, before_too_big, after_in_rang
 
 use crate::refusal_rows;
 use crate::slot_core::SlotCore;
-use phase_history::phase_accum::{Accumulate, Outcome};
+use phase_accum::{Accumulate, Outcome};
 use phase_history::{Got, GotBlock, WaitRefusal};
 
 impl<A: Accumulate> SlotCore<A> {

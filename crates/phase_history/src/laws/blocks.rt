@@ -1,9 +1,9 @@
 //! Laws of blocks of phases, and of what a call with its reply makes of a history.
 ghost use Rattle.std.specs.Prelude.{◌≡◌, ℕ, ℤ, List, ◌∷◌, length, Option, Ok, false};
-ghost use Rattle.phase_accum.specs.phase_base.Limits.{Limits};
+ghost use Rattle.phase_base.specs.Limits.{Limits};
 ghost use Rattle.phase_accum.specs.declared.outcome.Outcome.{Outcome};
 ghost use Rattle.phase_accum.specs.declared.single.Single.{Single};
-ghost use Rattle.phase_accum.specs.phase_base.declared.mode.Mode.{Mode};
+ghost use Rattle.phase_base.specs.declared.mode.Mode.{Mode};
 ghost use Rattle.phase_history.specs.Histories.{History, IsAlive, done_of};
 ghost use Rattle.phase_history.specs.Legal.{IsLegal};
 ghost use Rattle.phase_history.specs.Refusals.{is_bad_block, register_refusal, register_now_refusal, signal_refusal, drop_refusal};

@@ -1,10 +1,10 @@
 //! Whose an event can be, and what others' events leave as it was.
 ghost use Rattle.std.specs.Prelude.{◌≡◌, ◌≢◌, ◌≤◌, ℕ, ℤ, List, [], ◌∷◌, ◌++◌, Option, Ok, Some, None, true, false};
 ghost use Rattle.std.specs.List.{sum_by};
-ghost use Rattle.phase_accum.specs.phase_base.Limits.{Limits};
-ghost use Rattle.phase_accum.specs.phase_base.Members.{entry_of};
-ghost use Rattle.phase_accum.specs.phase_base.declared.entry.Entry.{Entry};
-ghost use Rattle.phase_accum.specs.phase_base.declared.mode.Mode.{Mode};
+ghost use Rattle.phase_base.specs.Limits.{Limits};
+ghost use Rattle.phase_base.specs.Members.{entry_of};
+ghost use Rattle.phase_base.specs.declared.entry.Entry.{Entry};
+ghost use Rattle.phase_base.specs.declared.mode.Mode.{Mode};
 ghost use Rattle.phase_accum.specs.declared.outcome.Outcome.{Outcome};
 ghost use Rattle.phase_accum.specs.declared.single.Single.{Single};
 ghost use Rattle.phase_history.specs.declared.event.Event.{Event};
@@ -15,7 +15,7 @@ ghost use Rattle.phase_history.specs.Legal.{IsLegal};
 ghost use Rattle.phase_history.specs.Refusals.{register_refusal, register_now_refusal, signal_refusal, wait_refusal, drop_refusal};
 ghost use Rattle.phase_history.specs.Replies.{wait_reply, wait_block_reply};
 ghost use Rattle.phase_history.specs.Others.{is_by, events_of, phases_of_signal, phases_of_wait, IsUsed, OnlyUsed, children_in, OthersCame};
-ghost use Rattle.phase_accum.specs.phase_base.Lists.{is_in};
+ghost use Rattle.phase_base.specs.Lists.{is_in};
 
 use crate::got::{Got, GotBlock};
 use crate::refusal::{RegisterRefusal, SignalRefusal, WaitRefusal};

@@ -1,9 +1,9 @@
 //! Who has sent what in which phase, and who holds the phases open.
 ghost use Rattle.std.specs.Prelude.{◌≡◌, ◌≢◌, ◌+◌, ◌<◌, ◌≤◌, ℕ, ℤ, List, [], Option, Some, None, IsSome, true, false, length, get_or};
-ghost use Rattle.phase_accum.specs.phase_base.Limits.{Limits};
-ghost use Rattle.phase_accum.specs.phase_base.Members.{entry_of};
-ghost use Rattle.phase_accum.specs.phase_base.Modes.{mode_signals};
-ghost use Rattle.phase_accum.specs.phase_base.declared.entry.Entry.{Entry};
+ghost use Rattle.phase_base.specs.Limits.{Limits};
+ghost use Rattle.phase_base.specs.Members.{entry_of};
+ghost use Rattle.phase_base.specs.Modes.{mode_signals};
+ghost use Rattle.phase_base.specs.declared.entry.Entry.{Entry};
 ghost use Rattle.phase_accum.specs.Exchanges.{Exchanges};
 ghost use Rattle.phase_accum.specs.declared.outcome.Outcome.{Outcome};
 ghost use Rattle.phase_accum.specs.declared.single.Single.{Single};
@@ -11,7 +11,7 @@ ghost use Rattle.phase_history.specs.Histories.{History, members_of, done_of, to
 ghost use Rattle.phase_history.specs.Phases.{sends_of_phase, named_in_phase, single_of_phase};
 ghost use Rattle.phase_history.specs.Legal.{AreLists, IsLegal};
 ghost use Rattle.phase_history.specs.Others.{IsUsed, OthersCame};
-ghost use Rattle.phase_accum.specs.phase_base.Lists.{is_distinct, is_in};
+ghost use Rattle.phase_base.specs.Lists.{is_distinct, is_in};
 ghost use Rattle.phase_history.specs.Sent.{sent_by, sent_in, gathered, OnlySignalled, OneHasSent, NamesAll, IsSilent, ReachesTop};
 
 /// The sends of a phase are those of its tasks put together: whatever is the same in any order is

@@ -1,7 +1,7 @@
 //! The calls of a receiver on blocks of phases.
 ghost use Rattle.std.specs.Prelude.{◌≡◌, ◌≢◌, ◌+◌, ◌≤◌, [], ◌∷◌, Err, IfOk, length};
 ghost use Rattle.std.specs.Vec.{vec_len, vec_capacity};
-ghost use Rattle.phase_shared.specs.phase_history.Others.{OnlyUsed};
+ghost use Rattle.phase_history.specs.Others.{OnlyUsed};
 ghost use Rattle.phase_shared.specs.Regs.{phaser_lock, phaser_terms, phaser_limits};
 ghost use Rattle.phase_shared.specs.Calls.{IsCall, Tries};
 ghost use Rattle.phase_shared.specs.Blocks.{WaitsBlock, entry_after_values};
@@ -10,8 +10,8 @@ ghost use Rattle.phase_received.specs.Whole.{HasSeenEnd};
 
 use super::Receiver;
 use crate::fault::ReceiveFault;
-use phase_shared::phase_accum::{Accumulate, Outcome};
-use phase_shared::phase_core::{GotBlock, WaitRefusal};
+use phase_accum::{Accumulate, Outcome};
+use phase_core::{GotBlock, WaitRefusal};
 use phase_shared::{Phaser, SignalRule, Tried};
 use std::sync::Wait;
 

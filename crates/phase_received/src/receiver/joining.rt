@@ -7,8 +7,8 @@ ghost use Rattle.phase_shared.specs.Joins.{RegistersNow};
 ghost use Rattle.phase_received.specs.Received.{received_of};
 
 use super::Receiver;
-use phase_shared::phase_accum::Accumulate;
-use phase_shared::phase_core::RegisterRefusal;
+use phase_accum::Accumulate;
+use phase_core::RegisterRefusal;
 use phase_shared::{Phaser, SignalRule, Tried};
 use std::alloc::Global;
 use std::sync::Wait;

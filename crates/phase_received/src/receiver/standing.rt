@@ -1,6 +1,6 @@
 //! How its phaser stands, as a receiver is told.
 ghost use Rattle.std.specs.Prelude.{◌≡◌, Ok, OnOk, OnErr};
-ghost use Rattle.phase_shared.specs.phase_core.Standings.{missing_of, put_over};
+ghost use Rattle.phase_core.specs.Standings.{missing_of, put_over};
 ghost use Rattle.phase_shared.specs.Regs.{phaser_lock, phaser_terms};
 ghost use Rattle.phase_shared.specs.Calls.{IsCall, IsTry, Tries};
 ghost use Rattle.phase_shared.specs.Entries.{entry_stays};
@@ -8,8 +8,9 @@ ghost use Rattle.phase_shared.specs.Standings.{AnswersStanding, TellsStanding, u
 ghost use Rattle.phase_received.specs.Received.{received_of};
 
 use super::Receiver;
-use phase_shared::phase_accum::Accumulate;
-use phase_shared::phase_core::{NoTask, Standing, laws};
+use phase_accum::Accumulate;
+use phase_core::{NoTask, Standing};
+use phase_history::laws;
 use phase_shared::{Phaser, SignalRule, Tried};
 use std::sync::Wait;
 

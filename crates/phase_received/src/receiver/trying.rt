@@ -1,8 +1,8 @@
 //! The calls of a receiver that wait for nobody.
 ghost use Rattle.std.specs.Prelude.{◌≡◌, ◌≢◌, [], ◌∷◌, Err, IfOk, IfErr, IsOk, OnOk, OnErr};
-ghost use Rattle.phase_shared.specs.phase_accum.Parcels.{StandsForSends};
-ghost use Rattle.phase_shared.specs.phase_history.Others.{OnlyUsed};
-ghost use Rattle.phase_shared.specs.phase_history.Phases.{received_by};
+ghost use Rattle.phase_accum.specs.Parcels.{StandsForSends};
+ghost use Rattle.phase_history.specs.Others.{OnlyUsed};
+ghost use Rattle.phase_history.specs.Phases.{received_by};
 ghost use Rattle.phase_shared.specs.Rule.{IsGoodAt};
 ghost use Rattle.phase_shared.specs.Regs.{phaser_lock, phaser_terms, phaser_limits};
 ghost use Rattle.phase_shared.specs.Calls.{IsTry, IsCall, Tries, Signals, Waits, Registers, MaySignal, Leaves};
@@ -15,9 +15,9 @@ use super::{Receiver, put};
 use crate::fault::ReceiveFault;
 use crate::laws;
 use crate::receipts::Receipts;
-use phase_shared::phase_accum::{Accumulate, Single};
-use phase_shared::phase_base::Mode;
-use phase_shared::phase_core::{Got, RegisterRefusal, SignalRefusal, WaitRefusal};
+use phase_accum::{Accumulate, Single};
+use phase_base::Mode;
+use phase_core::{Got, RegisterRefusal, SignalRefusal, WaitRefusal};
 use phase_shared::{Phaser, SignalRule, Tried};
 use std::alloc::Global;
 

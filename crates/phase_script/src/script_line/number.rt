@@ -3,7 +3,7 @@
 ghost use Rattle.std.specs.Prelude.{◌≡◌, ◌≤◌, nat_abs, IfSome};
 ghost use Rattle.phase_script.specs.Numbers.{most, nat_of, int_of};
 
-use phase_accum::{MAGNITUDE_MAX, phase_base};
+use phase_accum::MAGNITUDE_MAX;
 
 /// Reads the word as a number.
 pub fn nat(word: &[u8]) -> Option<u64>

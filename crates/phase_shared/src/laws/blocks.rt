@@ -1,24 +1,24 @@
 //! Laws of blocks of phases, and of waiters that join now.
 ghost use Rattle.std.specs.Prelude.{◌≡◌, ◌≤◌, ℕ, ℤ, List, [], ◌∷◌, Option, Result, Ok, Err, Some};
-ghost use Rattle.phase_core.specs.phase_base.Limits.{Limits};
-ghost use Rattle.phase_core.specs.phase_base.Members.{entry_of};
-ghost use Rattle.phase_core.specs.phase_base.declared.entry.Entry.{Entry};
-ghost use Rattle.phase_core.specs.phase_accum.Parcels.{Parcel};
-ghost use Rattle.phase_core.specs.phase_accum.declared.outcome.Outcome.{Outcome};
-ghost use Rattle.phase_core.specs.phase_accum.declared.single.Single.{Single};
-ghost use Rattle.phase_core.specs.phase_history.declared.refusal.SignalRefusal.{SignalRefusal};
-ghost use Rattle.phase_core.specs.phase_history.declared.refusal.WaitRefusal.{WaitRefusal};
-ghost use Rattle.phase_core.specs.phase_history.Histories.{History, HasNoSignaller, members_of, done_of, wait_phase, start_of};
-ghost use Rattle.phase_core.specs.phase_history.Phases.{received_by};
-ghost use Rattle.phase_core.specs.phase_history.Legal.{IsLegal};
+ghost use Rattle.phase_base.specs.Limits.{Limits};
+ghost use Rattle.phase_base.specs.Members.{entry_of};
+ghost use Rattle.phase_base.specs.declared.entry.Entry.{Entry};
+ghost use Rattle.phase_accum.specs.Parcels.{Parcel};
+ghost use Rattle.phase_accum.specs.declared.outcome.Outcome.{Outcome};
+ghost use Rattle.phase_accum.specs.declared.single.Single.{Single};
+ghost use Rattle.phase_history.specs.declared.refusal.SignalRefusal.{SignalRefusal};
+ghost use Rattle.phase_history.specs.declared.refusal.WaitRefusal.{WaitRefusal};
+ghost use Rattle.phase_history.specs.Histories.{History, HasNoSignaller, members_of, done_of, wait_phase, start_of};
+ghost use Rattle.phase_history.specs.Phases.{received_by};
+ghost use Rattle.phase_history.specs.Legal.{IsLegal};
 ghost use Rattle.phase_shared.specs.Calls.{Signals};
 ghost use Rattle.phase_shared.specs.Blocks.{SignalsBlock, WaitsBlock};
 ghost use Rattle.phase_shared.specs.Joins.{HasRegisteredNow};
 ghost use Rattle.phase_shared.specs.Parts.{PartStays, HasNoPart};
 ghost use Rattle.phase_shared.specs.BlockParts.{SendsLists, GetsValues};
 
+use phase_accum::Accumulate;
 use phase_core::GotBlock;
-use phase_core::phase_accum::Accumulate;
 
 /// A signal of a block that is accepted adds its lists of sends to what its task has sent, in their
 /// order. One that is refused adds nothing. Neither adds to what the task has received.

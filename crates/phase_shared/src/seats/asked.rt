@@ -10,8 +10,8 @@ use crate::seats::ghost_steps::Since;
 use crate::seats::locked::LockedPhaser;
 use crate::seats::request::Request;
 use crate::seats::view::PhaserSeat;
+use phase_accum::{Accumulate, Outcome};
 use phase_core::SignalRefusal;
-use phase_core::phase_accum::{Accumulate, Outcome};
 use std::marker::PhantomData;
 
 /// Posts what it asks for, and tells whether it did: its lane may be another's.

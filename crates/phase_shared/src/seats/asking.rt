@@ -1,7 +1,7 @@
 //! The steps of a seat that asks, and of its turn, that make no event.
 ghost use Rattle.std.specs.Prelude.{◌≡◌, IfOk};
 ghost use Rattle.turn_lock.specs.Seats.{seat_view, turn_view, turn_value};
-ghost use Rattle.phase_core.specs.phase_history.Phases.{value_of_phase};
+ghost use Rattle.phase_history.specs.Phases.{value_of_phase};
 ghost use Rattle.phase_shared.specs.Goods.{allows_or};
 ghost use Rattle.phase_shared.specs.Servings.{HasAnswer};
 ghost use Rattle.phase_shared.specs.declared.seats.view.Ask.{Ask};
@@ -16,7 +16,7 @@ use crate::seats::desk::{AskingDesk, Came, Desk, EndedDesk, OnTurn, TakenTurn};
 use crate::seats::ghost_steps::{
     OnAsked, OnBoardKind, OnBoardNumber, OnKind, OnNumber, OnTakeAsked, Since,
 };
-use phase_core::phase_accum::{Accumulate, Outcome};
+use phase_accum::{Accumulate, Outcome};
 
 impl<'a, A: Accumulate, K: SignalRule, S: Since<K>> AskingDesk<'a, A, K, S> {
     /// Takes the turn, where it is free.

@@ -1,9 +1,9 @@
 //! The steps of a seat for a block of phases.
 ghost use Rattle.std.specs.Prelude.{◌≡◌, ◌≤◌, ℤ, List, [], ◌∷◌, length, true};
 ghost use Rattle.turn_lock.specs.Seats.{IsSameSeat, seat_view};
-ghost use Rattle.phase_core.specs.phase_history.Histories.{History};
-ghost use Rattle.phase_core.specs.phase_history.Others.{OthersCame};
-ghost use Rattle.phase_core.specs.phase_accum.Sends.{AreSends};
+ghost use Rattle.phase_history.specs.Histories.{History};
+ghost use Rattle.phase_history.specs.Others.{OthersCame};
+ghost use Rattle.phase_accum.specs.Sends.{AreSends};
 ghost use Rattle.phase_core.specs.Blocks.{StandForLists, one_each};
 ghost use Rattle.phase_shared.specs.Views.{known_of};
 ghost use Rattle.phase_shared.specs.Rule.{IsGoodAt};
@@ -18,8 +18,8 @@ use crate::seats::locked::LockedPhaser;
 use crate::seats::steps::{enter, put_back, tried_of};
 use crate::seats::view::PhaserSeat;
 use crate::tried::Tried;
-use phase_core::phase_accum::{Accumulate, Outcome, Pending, Single};
-use phase_core::phase_base::Entry;
+use phase_accum::{Accumulate, Outcome, Pending, Single};
+use phase_base::Entry;
 use phase_core::{GotBlock, SignalRefusal, WaitRefusal};
 use std::marker::Brand;
 

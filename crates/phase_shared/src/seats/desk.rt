@@ -10,8 +10,8 @@ use crate::seats::ghost_steps::Since;
 use crate::seats::locked::LockedPhaser;
 use crate::seats::request::Request;
 use crate::seats::view::{PhaserSeat, PhaserTurn};
+use phase_accum::{Accumulate, Outcome};
 use phase_core::SignalRefusal;
-use phase_core::phase_accum::{Accumulate, Outcome};
 use std::marker::{Model, PhantomData};
 
 /// A call, on its phaser.
@@ -161,7 +161,7 @@ pub struct RefusedTurn<'a, A: Accumulate, K: SignalRule, S: Since<K>> {
 impl<'a, A: Accumulate, K: SignalRule, S: Since<K>> Model for RefusedTurn<'a, A, K, S> {
     ghost use Rattle.std.specs.Prelude.{◌≡◌, ◌∷◌, [], Some, None};
     ghost use Rattle.turn_lock.specs.Seats.{turn_view, turn_value};
-    ghost use Rattle.phase_core.specs.phase_history.Refusals.{signal_refusal};
+    ghost use Rattle.phase_history.specs.Refusals.{signal_refusal};
     ghost use Rattle.phase_shared.specs.Goods.{allows_or};
     ghost use Rattle.phase_shared.specs.Servings.{Starting};
     ghost use Rattle.phase_shared.specs.Views.{known_of};

@@ -3,8 +3,8 @@ ghost use Rattle.std.specs.Prelude.{◌≡◌};
 
 use crate::rule::{SignalRule, Terms};
 use crate::seats::view::View;
+use phase_accum::Accumulate;
 use phase_core::PhaserCore;
-use phase_core::phase_accum::Accumulate;
 use std::marker::{Brand, PhantomData};
 use turn_lock::{Join, Learns, Reads, Split, Tells};
 
@@ -179,7 +179,7 @@ impl<K> Reads<Terms<K>, View> for OnBoardNumber {
 pub trait Since<K> {
     ghost use Rattle.std.specs.Prelude.{Option};
     ghost use Rattle.turn_lock.specs.Seats.{Place};
-    ghost use Rattle.phase_core.specs.phase_history.Histories.{History};
+    ghost use Rattle.phase_history.specs.Histories.{History};
     ghost use Rattle.phase_shared.specs.declared.rule.Terms.{Terms};
     ghost use Rattle.phase_shared.specs.declared.seats.view.Ask.{Ask};
 

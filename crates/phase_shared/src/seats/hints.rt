@@ -4,7 +4,7 @@ ghost use Rattle.std.specs.Prelude.{◌<◌, ◌≤◌, ◌^◌};
 use crate::lane_words::LANES;
 use crate::rule::SignalRule;
 use crossbeam_utils::CachePadded;
-use phase_core::phase_accum::Accumulate;
+use phase_accum::Accumulate;
 use phase_core::{PhaserCore, SignalRefusal};
 use std::sync::Wait;
 use std::sync::atomic::AtomicU64;

@@ -11,9 +11,9 @@ use crate::seats::locked::LockedPhaser;
 use crate::seats::steps::{child_of, enter, give_same, put_back, split};
 use crate::seats::view::PhaserSeat;
 use crate::tried::Tried;
+use phase_accum::Accumulate;
+use phase_base::Entry;
 use phase_core::RegisterRefusal;
-use phase_core::phase_accum::Accumulate;
-use phase_core::phase_base::Entry;
 use std::marker::Brand;
 
 // Registers a child that joins now. The answer is the child's number, seat and entry.

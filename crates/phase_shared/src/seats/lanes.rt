@@ -16,7 +16,7 @@ use crate::rule::SignalRule;
 use crate::seats::desk::{AskingDesk, Desk, OnTurn, ReadyDesk};
 use crate::seats::ghost_steps::{OnBoardKind, OnReport, OnStep, Plan, Report, Since};
 use crate::seats::places::is_own;
-use phase_core::phase_accum::{Accumulate, Outcome};
+use phase_accum::{Accumulate, Outcome};
 use std::marker::Brand;
 
 impl<'a, A: Accumulate, K: SignalRule, S: Since<K>> Desk<'a, A, K, S> {

@@ -1,16 +1,16 @@
 //! A phaser of one thread under a lock.
 ghost use Rattle.std.specs.Prelude.{◌≡◌, ◌<◌, ◌^◌, IfOk};
 ghost use Rattle.turn_lock.specs.Seats.{IsSeatAt, seat_view};
-ghost use Rattle.phase_core.specs.phase_history.Histories.{founder};
+ghost use Rattle.phase_history.specs.Histories.{founder};
 ghost use Rattle.phase_shared.specs.LockedPhasers.{locked_place, locked_terms};
 ghost use Rattle.phase_shared.specs.Rule.{founding, IsSeatOfTask};
 
 use crate::rule::{SignalRule, Terms};
 use crate::seats::hints::{Hints, News, Reached};
 use crate::seats::view::{PhaserLock, PhaserSeat};
+use phase_accum::Accumulate;
+use phase_base::Spec;
 use phase_core::PhaserCore;
-use phase_core::phase_accum::Accumulate;
-use phase_core::phase_base::Spec;
 use std::alloc::{AllocError, Global};
 use turn_lock::WordLock;
 

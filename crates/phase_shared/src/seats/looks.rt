@@ -13,8 +13,8 @@ use crate::seats::locked::LockedPhaser;
 use crate::seats::steps::{enter, give_same};
 use crate::seats::view::PhaserSeat;
 use crate::tried::Tried;
-use phase_core::phase_accum::Accumulate;
-use phase_core::phase_base::Entry;
+use phase_accum::Accumulate;
+use phase_base::Entry;
 use phase_core::{NoTask, Standing};
 
 /// Looks how the phaser stands, and writes who is missing into the first places, as many as there

@@ -2,7 +2,7 @@
 use crate::rule::SignalRule;
 use crate::seats::hints::Bell;
 use crate::seats::locked::LockedPhaser;
-use phase_core::phase_accum::Accumulate;
+use phase_accum::Accumulate;
 use std::sync::Wait;
 use std::{hint, thread};
 

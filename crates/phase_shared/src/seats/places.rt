@@ -14,8 +14,8 @@ use crate::rule::SignalRule;
 use crate::seats::ghost_steps::{OnReport, OnStep, Plan, Report};
 use crate::seats::locked::LockedPhaser;
 use crate::seats::view::{PhaserSeat, PhaserTurn};
-use phase_core::phase_accum::Accumulate;
-use phase_core::phase_base::Mode;
+use phase_accum::Accumulate;
+use phase_base::Mode;
 use std::marker::Brand;
 
 /// The lanes of a task and of its child, or `LANES` where they have none.

@@ -10,7 +10,7 @@ use crate::lane_words::{LANES, sends_of};
 use crate::rule::SignalRule;
 use crate::seats::desk::{FullTurn, OnTurn, OpenTurn};
 use crate::seats::ghost_steps::Since;
-use phase_core::phase_accum::{Accumulate, Outcome};
+use phase_accum::{Accumulate, Outcome};
 use phase_core::{Got, PhaserCore};
 use std::hint;
 

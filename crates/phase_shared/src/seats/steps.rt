@@ -2,11 +2,11 @@
 ghost use Rattle.std.specs.Prelude.{◌≡◌, ℤ, List, [], ◌∷◌, true, false, Ok, Err, IfOk, IfErr, IsOk, IsErr, OnErr};
 ghost use Rattle.turn_lock.specs.Seats.{IsTurnAt, IsSameSeat, seat_view, turn_number, turn_view, turn_value, turn_told};
 ghost use Rattle.turn_lock.specs.WordSteps.{GivesOf};
-ghost use Rattle.phase_core.specs.phase_accum.Parcels.{StandsForSends};
-ghost use Rattle.phase_core.specs.phase_history.Histories.{History};
-ghost use Rattle.phase_core.specs.phase_history.declared.event.Event.TheVariants.{Signalled};
-ghost use Rattle.phase_core.specs.phase_history.Replies.{signal_reply, wait_reply};
-ghost use Rattle.phase_core.specs.phase_history.Others.{OnlyUsed, OthersCame};
+ghost use Rattle.phase_accum.specs.Parcels.{StandsForSends};
+ghost use Rattle.phase_history.specs.Histories.{History};
+ghost use Rattle.phase_history.specs.declared.event.Event.TheVariants.{Signalled};
+ghost use Rattle.phase_history.specs.Replies.{signal_reply, wait_reply};
+ghost use Rattle.phase_history.specs.Others.{OnlyUsed, OthersCame};
 ghost use Rattle.phase_shared.specs.Views.{resting, known_of, speaks_of, joining, first_part, other_part, IsResting, SpeaksForOne, SpeaksForTwo};
 ghost use Rattle.phase_shared.specs.Rule.{HasOneHistory, AfterTake, IsGoodAt, LearnedAt};
 ghost use Rattle.phase_core.specs.Cores.{StandsFor};
@@ -23,8 +23,8 @@ use crate::seats::locked::LockedPhaser;
 use crate::seats::places::{Lodgings, lodge_both};
 use crate::seats::view::{PhaserSeat, PhaserTurn};
 use crate::tried::Tried;
-use phase_core::phase_accum::{Accumulate, Pending, Single};
-use phase_core::phase_base::{Entry, Mode};
+use phase_accum::{Accumulate, Pending, Single};
+use phase_base::{Entry, Mode};
 use phase_core::{Got, PhaserCore, RegisterRefusal, SignalRefusal, WaitRefusal};
 use std::marker::Brand;
 

@@ -14,7 +14,7 @@ use crate::seats::desk::{
 };
 use crate::seats::ghost_steps::{OnGive, Plan, Since};
 use crate::seats::hints::Hints;
-use phase_core::phase_accum::Accumulate;
+use phase_accum::Accumulate;
 use std::marker::Brand;
 
 // The numbers of complete phases that a lock tells are below it.

@@ -1,6 +1,6 @@
 //! What the seats of a phaser's lock know.
 use crate::rule::{SignalRule, Terms};
-use phase_core::phase_accum::{Accumulate, Outcome};
+use phase_accum::{Accumulate, Outcome};
 use phase_core::{Event, PhaserCore};
 use std::collections::LinkedList;
 use std::marker::PhantomData;

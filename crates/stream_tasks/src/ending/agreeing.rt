@@ -1,6 +1,6 @@
 //! Whether what the tasks know of one another agrees.
 ghost use Rattle.std.specs.Prelude.{◌≡◌, ◌<◌, ℕ, true, length, slice_get, IfSome, None};
-ghost use Rattle.graph_runs.specs.graph_base.TaskLines.{IsGraph};
+ghost use Rattle.graph_base.specs.TaskLines.{IsGraph};
 ghost use Rattle.stream_tasks.specs.declared.ending.task_left.TaskKnowledge.{TaskKnowledge as TaskKnowledgeValue};
 ghost use Rattle.stream_tasks.specs.Joinings.{IsPlaced};
 ghost use Rattle.stream_tasks.specs.TaskLefts.{given_to};
@@ -8,7 +8,7 @@ ghost use Rattle.stream_tasks.specs.Agreeing.{Agrees};
 
 use crate::child::Child;
 use crate::ending::task_left::TaskKnowledge;
-use stream_eval::stream_lists::Job;
+use stream_lists::Job;
 
 /// What task number `t` knows of itself, where it came.
 pub(crate) fn part_at(parts: &[Option<TaskKnowledge>], t: usize) -> Option<&TaskKnowledge>

@@ -1,6 +1,6 @@
 //! What all tasks have seen, put together.
 ghost use Rattle.std.specs.Prelude.{◌≡◌, ◌<◌, [], ◌∷◌, ℕ, length, IfOk, IfSome};
-ghost use Rattle.graph_runs.specs.graph_base.TaskLines.{IsGraph};
+ghost use Rattle.graph_base.specs.TaskLines.{IsGraph};
 ghost use Rattle.stream_members.specs.Members.{Spot};
 ghost use Rattle.stream_members.specs.declared.any_left.AnyLeft.{AnyLeft as LeftValue};
 ghost use Rattle.graph_runs.specs.TaskPlaces.{registration_at};
@@ -13,7 +13,7 @@ ghost use Rattle.stream_tasks.specs.TaskLefts.{IsTaskLeft, HasLeftAs};
 use crate::ending::joining::take_all_in;
 use crate::ending::task_left::{TaskKnowledge, TaskLeft};
 use std::alloc::{AllocError, Global};
-use stream_eval::stream_lists::Job;
+use stream_lists::Job;
 use stream_members::AnyLeft;
 
 /// Puts what the tasks have seen to what their founders have, phaser by phaser. It gives what each

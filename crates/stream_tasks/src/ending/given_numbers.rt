@@ -6,7 +6,7 @@ ghost use Rattle.stream_tasks.specs.Agreeing.{IsNumberOfTask, AreOfTasks, HasNum
 
 use crate::ending::agreeing::part_at;
 use crate::ending::task_left::TaskKnowledge;
-use stream_eval::stream_lists::Job;
+use stream_lists::Job;
 
 /// Whether task number `t`, which knows this of itself, has this number on phaser `p`.
 fn has_number(job: &Job, part: &TaskKnowledge, t: usize, p: usize, number: u64) -> bool

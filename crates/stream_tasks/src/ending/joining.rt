@@ -1,13 +1,13 @@
 //! What the members of the phasers have seen, put together.
 ghost use Rattle.std.specs.Prelude.{◌≡◌, ◌<◌, ℕ, length, slice_get, Some};
-ghost use Rattle.graph_runs.specs.graph_base.TaskLines.{IsGraph};
+ghost use Rattle.graph_base.specs.TaskLines.{IsGraph};
 ghost use Rattle.stream_members.specs.declared.any_left.AnyLeft.{AnyLeft as LeftValue};
 ghost use Rattle.graph_runs.specs.Nexts.{registrations_at};
 ghost use Rattle.graph_runs.specs.TaskPlaces.{registration_at};
 ghost use Rattle.stream_tasks.specs.Joinings.{HasPlaceFor, HaveGrown, IsTakenIn};
 ghost use Rattle.stream_tasks.specs.EndsInside.{HasTakenIn};
 
-use stream_eval::stream_lists::Job;
+use stream_lists::Job;
 use stream_members::AnyLeft;
 
 /// Makes one of what stands at place `p` and this, which left the same phaser.

@@ -2,14 +2,14 @@
 ghost use Rattle.std.specs.Prelude.{◌≡◌, ◌<◌, length, map, get_or, None, IfOk};
 ghost use Rattle.std.specs.List.{All};
 ghost use Rattle.stream_eval.specs.Results.{sink_values};
-ghost use Rattle.stream_eval.specs.stream_lists.Lists.{sinks_of};
-ghost use Rattle.graph_runs.specs.graph_base.Graphs.{task_at};
+ghost use Rattle.stream_lists.specs.Lists.{sinks_of};
+ghost use Rattle.graph_base.specs.Graphs.{task_at};
 ghost use Rattle.stream_tasks.specs.TaskLefts.{part_lines, part_start, lines_at};
 
 use crate::ending::task_left::TaskKnowledge;
 use std::alloc::{AllocError, Global};
 use stream_eval::Lines;
-use stream_eval::stream_lists::Job;
+use stream_lists::Job;
 
 /// What a task has taken, and nothing where it never came.
 fn lines_of(alloc: Global, part: Option<TaskKnowledge>) -> Vec<i64>

@@ -14,7 +14,7 @@ use crate::ending::task_left::TaskLeft;
 use graph_runs::ends::runs_end;
 use std::alloc::{AllocError, Global};
 use stream_eval::Lines;
-use stream_eval::stream_lists::Job;
+use stream_lists::Job;
 use stream_members::AnyLeft;
 
 /// What the sinks have taken, where what the tasks and the founders leave behind agrees: then it is

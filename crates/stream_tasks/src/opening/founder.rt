@@ -3,10 +3,10 @@ ghost use Rattle.std.specs.Prelude.{◌≡◌, [], IfOk};
 ghost use Rattle.stream_members.specs.AnyPhasers.{IsFounderOf, phaser_op, phaser_spot};
 ghost use Rattle.stream_tasks.specs.Founders.{IsRoot, IsLeftOfFounder};
 
-use graph_runs::phase_base::Mode;
+use phase_base::Mode;
+use phase_core::RegisterRefusal;
 use std::marker::Model;
 use std::sync::Wait;
-use stream_members::phase_core::RegisterRefusal;
 use stream_members::{AnyLeft, AnyMember, AnyPhaser, AnyReg};
 
 /// The founder of a phaser, with the numbers that it gave to tasks.

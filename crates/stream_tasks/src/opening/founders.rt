@@ -1,20 +1,20 @@
 //! The founders of all phasers of a graph, who register the tasks without a parent and leave.
 ghost use Rattle.std.specs.Prelude.{◌≡◌, ◌<◌, ℕ, length, slice_get, Some, IfOk};
-ghost use Rattle.graph_runs.specs.graph_base.Registrations.{registrations_of};
-ghost use Rattle.graph_runs.specs.graph_base.Graphs.{task_at};
+ghost use Rattle.graph_base.specs.Registrations.{registrations_of};
+ghost use Rattle.graph_base.specs.Graphs.{task_at};
 ghost use Rattle.stream_members.specs.Members.{Spot};
 ghost use Rattle.graph_runs.specs.TaskPlaces.{registration_at};
-ghost use Rattle.stream_eval.specs.stream_lists.Jobs.{Job as JobValue};
+ghost use Rattle.stream_lists.specs.Jobs.{Job as JobValue};
 ghost use Rattle.stream_tasks.specs.Openings.{ArePhasers, AreFoundersFrom, AreFounders, HaveFoundersLeft, spot_at, IsRootMember};
 
 use crate::opening::founder::{Founder, FounderLeft};
 use crate::opening::phasers::dismiss;
-use graph_runs::graph_base::Registration;
-use graph_runs::graph_base::laws::registrations;
+use graph_base::Registration;
+use graph_base::laws::registrations;
+use phase_core::RegisterRefusal;
 use std::alloc::{AllocError, Global};
 use std::sync::Wait;
-use stream_eval::stream_lists::Job;
-use stream_members::phase_core::RegisterRefusal;
+use stream_lists::Job;
 use stream_members::{AnyMember, AnyPhaser, AnyReg};
 
 /// Makes the founders of these phasers members. Where memory is wanting they leave, by waiting.

@@ -1,6 +1,6 @@
 //! How a task without a parent is registered by the founders of its phasers.
 ghost use Rattle.std.specs.Prelude.{◌≡◌, ◌<◌, length, IfOk, None};
-ghost use Rattle.graph_runs.specs.graph_base.Graphs.{task_at};
+ghost use Rattle.graph_base.specs.Graphs.{task_at};
 ghost use Rattle.graph_runs.specs.Nexts.{registrations_at};
 ghost use Rattle.stream_tasks.specs.Openings.{AreFounders};
 ghost use Rattle.stream_tasks.specs.Seeds.{seed_state, IsReadySeed};
@@ -10,10 +10,10 @@ use crate::opening::founders::register_root;
 use crate::run::Run;
 use crate::seed::Seed;
 use crate::task::Task;
+use phase_core::RegisterRefusal;
 use std::alloc::Global;
 use std::sync::Wait;
-use stream_eval::stream_lists::Job;
-use stream_members::phase_core::RegisterRefusal;
+use stream_lists::Job;
 
 /// The founders of its phasers register a task in the order of its registrations. Where one of them
 /// cannot, it leaves the others.

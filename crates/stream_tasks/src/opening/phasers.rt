@@ -3,10 +3,10 @@ ghost use Rattle.std.specs.Prelude.{◌≡◌, ◌<◌, length, IfOk};
 ghost use Rattle.stream_members.specs.AnyPhasers.{phaser_op, phaser_spot, IsFounderOf};
 ghost use Rattle.stream_tasks.specs.Openings.{ArePhasers, AreFoundersFrom, IsOfLine};
 
-use graph_runs::phase_base::{PHASES_MAX, Spec};
+use phase_base::{PHASES_MAX, Spec};
 use std::alloc::{AllocError, Global};
 use std::sync::Wait;
-use stream_eval::stream_lists::Job;
+use stream_lists::Job;
 use stream_members::{AnyPhaser, AnyReg};
 
 /// Makes phaser number `p`.

@@ -1,8 +1,8 @@
 -- The sink made no more calls, and no phase came after the end.
 use Rattle.std.proofs.Common.{sym, ap, ◌∙◌}
-use Rattle.phase_received.specs.phase_accum.Values.{sum_value}
-use Rattle.phase_received.specs.phase_base.Lists.{is_in}
-use Rattle.phase_received.specs.phase_shared.Regs.{phaser_limits}
+use Rattle.phase_accum.specs.Values.{sum_value}
+use Rattle.phase_base.specs.Lists.{is_in}
+use Rattle.phase_shared.specs.Regs.{phaser_limits}
 use Rattle.three_stages.proofs.Joined.{is_in-append}
 use Rattle.three_stages.proofs.joins.Goals as goal
 

@@ -1,5 +1,5 @@
 use Rattle.std.specs.Prelude.{◌≡◌}
-use Rattle.phase_received.specs.phase_shared.Regs.{phaser_lock}
+use Rattle.phase_shared.specs.Regs.{phaser_lock}
 use Rattle.three_stages.proofs.sends_some.Given as goal
 
 -- it stays on its phaser

@@ -1,7 +1,7 @@
 use Rattle.std.proofs.Common.{◌≡◌, [], ◌∷◌, map, drop, sym, ap, subst, ◌∙◌}
-use Rattle.phase_received.specs.phase_accum.Values.{sum_value}
-use Rattle.phase_received.specs.phase_history.Phases.{received_by}
-use Rattle.phase_received.specs.phase_shared.Regs.{PastState, phaser_lock, phaser_limits}
+use Rattle.phase_accum.specs.Values.{sum_value}
+use Rattle.phase_history.specs.Phases.{received_by}
+use Rattle.phase_shared.specs.Regs.{PastState, phaser_lock, phaser_limits}
 use Rattle.two_threads_by_blocks.specs.declared.rule.ByOne.{ByOne}
 use Rattle.two_threads_by_blocks.specs.Sent.{GotSent}
 use Rattle.two_threads_by_blocks.proofs.Sole.{same_head}

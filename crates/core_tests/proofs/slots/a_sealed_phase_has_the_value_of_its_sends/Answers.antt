@@ -1,8 +1,8 @@
 -- The slots of the ring, call by call.
 use Rattle.std.proofs.Common.{◌≡◌, ℕ, ℤ, ◌+◌, ◌<◌, None, Some, length, subst, sym, ◌∙◌, ap, arith}
-use Rattle.phase_core.specs.phase_accum.Sums.{sum_operation}
-use Rattle.phase_core.specs.phase_ring.Slots.{empty_slot, joined, sealed}
-use Rattle.phase_core.specs.phase_ring.Rings.{Ring, IsWithin, fresh_ring, slot_at, with_slot, is_sealed}
+use Rattle.phase_accum.specs.Sums.{sum_operation}
+use Rattle.phase_ring.specs.Slots.{empty_slot, joined, sealed}
+use Rattle.phase_ring.specs.Rings.{Ring, IsWithin, fresh_ring, slot_at, with_slot, is_sealed}
 use Rattle.core_tests.proofs.slots.a_sealed_phase_has_the_value_of_its_sends.Goals as goal
 
 pub seal-requires-clause-within : goal.seal-requires-clause-within

@@ -1,9 +1,9 @@
 -- The slots of the ring, call by call.
 use Rattle.std.proofs.Common.{◌≡◌, ℕ, ℤ, ◌+◌, ◌<◌, Some, subst, sym, ◌∙◌, ap, arith}
-use Rattle.phase_core.specs.phase_accum.Sums.{sum_operation}
-use Rattle.phase_core.specs.phase_ring.declared.role.Role.TheVariants.{Waiter}
-use Rattle.phase_core.specs.phase_ring.Slots.{empty_slot, with_standing}
-use Rattle.phase_core.specs.phase_ring.Rings.{Ring, IsWithin, fresh_ring, slot_at, with_slot, standing}
+use Rattle.phase_accum.specs.Sums.{sum_operation}
+use Rattle.phase_ring.specs.declared.role.Role.TheVariants.{Waiter}
+use Rattle.phase_ring.specs.Slots.{empty_slot, with_standing}
+use Rattle.phase_ring.specs.Rings.{Ring, IsWithin, fresh_ring, slot_at, with_slot, standing}
 use Rattle.core_tests.proofs.slots.tasks_come_and_go.Goals as goal
 
 pub standing-requires : goal.standing-requires

@@ -1,8 +1,8 @@
 -- Each reply is computed.
 use Rattle.std.proofs.Common.{refl, None, pos, [], ◌∷◌, arith}
-use Rattle.phase_core.specs.phase_accum.Values.{sum_value}
-use Rattle.phase_core.specs.phase_accum.declared.outcome.Outcome.TheVariants.{Value}
-use Rattle.phase_core.specs.phase_history.declared.call.Call.TheVariants.{Signal}
+use Rattle.phase_accum.specs.Values.{sum_value}
+use Rattle.phase_accum.specs.declared.outcome.Outcome.TheVariants.{Value}
+use Rattle.phase_history.specs.declared.call.Call.TheVariants.{Signal}
 use Rattle.core_tests.specs.Worked.{worked_limits, two_signals, one_wait, all_got, one_list, two_lists}
 use Rattle.core_tests.proofs.Legal.{one_wait_is_legal}
 use Rattle.core_tests.proofs.worked_laws.answered_calls.Goals as goal

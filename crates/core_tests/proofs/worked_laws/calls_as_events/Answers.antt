@@ -1,7 +1,7 @@
 -- At this history.
 use Rattle.std.proofs.Common.{None}
-use Rattle.phase_core.specs.phase_accum.Values.{sum_value}
-use Rattle.phase_core.specs.phase_base.declared.mode.Mode.TheVariants.{Sig}
+use Rattle.phase_accum.specs.Values.{sum_value}
+use Rattle.phase_base.specs.declared.mode.Mode.TheVariants.{Sig}
 use Rattle.core_tests.specs.Worked.{worked_limits, one_wait, one_list}
 use Rattle.core_tests.proofs.worked_laws.calls_as_events.Goals as goal
 

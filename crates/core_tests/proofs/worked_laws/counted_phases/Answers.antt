@@ -1,7 +1,7 @@
 -- By the entries, which are computed.
 use Rattle.std.proofs.Common.{refl}
-use Rattle.phase_core.specs.phase_base.declared.mode.Mode.TheVariants.{Sig, Single}
-use Rattle.phase_core.specs.phase_history.Histories.{entry_at}
+use Rattle.phase_base.specs.declared.mode.Mode.TheVariants.{Sig, Single}
+use Rattle.phase_history.specs.Histories.{entry_at}
 use Rattle.core_tests.specs.Worked.{worked_limits, one_wait, half_turn}
 use Rattle.core_tests.proofs.Legal.{one_wait_is_legal, half_turn_is_legal}
 use Rattle.core_tests.proofs.worked_laws.counted_phases.Goals as goal

@@ -1,8 +1,8 @@
 -- The last event is of task 2.
 use Rattle.std.proofs.Common.{refl, [], ◌∷◌}
-use Rattle.phase_core.specs.phase_history.declared.event.Event.TheVariants.{Waited}
-use Rattle.phase_core.specs.phase_base.declared.mode.Mode.TheVariants.{Sig}
-use Rattle.phase_core.specs.phase_history.Histories.{entry_at}
+use Rattle.phase_history.specs.declared.event.Event.TheVariants.{Waited}
+use Rattle.phase_base.specs.declared.mode.Mode.TheVariants.{Sig}
+use Rattle.phase_history.specs.Histories.{entry_at}
 use Rattle.core_tests.specs.Worked.{worked_limits, two_signals, one_wait}
 use Rattle.core_tests.proofs.Legal.{one_wait_is_legal, no_wait_of_1, others_came}
 use Rattle.core_tests.proofs.worked_laws.events_of_others.Goals as goal

@@ -1,6 +1,6 @@
 -- Tasks 1 and 2 are registered.
 use Rattle.std.proofs.Common.{refl, None}
-use Rattle.phase_core.specs.phase_base.declared.mode.Mode.TheVariants.{Sig}
+use Rattle.phase_base.specs.declared.mode.Mode.TheVariants.{Sig}
 use Rattle.core_tests.specs.Worked.{worked_limits, one_wait, two_lists}
 use Rattle.core_tests.proofs.worked_laws.known_members.Goals as goal
 

@@ -1,6 +1,6 @@
 -- The later events of each.
 use Rattle.std.proofs.Common.{refl, arith}
-use Rattle.phase_core.specs.phase_accum.Values.{sum_value}
+use Rattle.phase_accum.specs.Values.{sum_value}
 use Rattle.core_tests.specs.Worked.{worked_limits, one_signal, one_wait, all_left, all_got}
 use Rattle.core_tests.proofs.Legal.{one_signal_is_legal, one_wait_is_legal, all_left_is_legal, all_got_is_legal, one_wait_begins, all_left_begins, all_got_begins, not_empty}
 use Rattle.core_tests.proofs.worked_laws.longer_histories.Goals as goal

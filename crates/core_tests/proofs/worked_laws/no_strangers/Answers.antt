@@ -1,6 +1,6 @@
 -- The waiter of the last event was registered before it.
 use Rattle.std.proofs.Common.{refl, arith}
-use Rattle.phase_core.specs.phase_history.declared.event.Event.TheVariants.{Waited}
+use Rattle.phase_history.specs.declared.event.Event.TheVariants.{Waited}
 use Rattle.core_tests.specs.Worked.{worked_limits, two_signals, one_wait}
 use Rattle.core_tests.proofs.Legal.{one_wait_is_legal, one_wait_begins_itself}
 use Rattle.core_tests.proofs.worked_laws.no_strangers.Goals as goal

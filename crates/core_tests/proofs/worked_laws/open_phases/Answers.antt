@@ -1,7 +1,7 @@
 -- By the starts, which are computed.
 use Rattle.std.proofs.Common.{refl}
-use Rattle.phase_core.specs.phase_base.declared.mode.Mode.TheVariants.{Sig}
-use Rattle.phase_core.specs.phase_history.Histories.{entry_at}
+use Rattle.phase_base.specs.declared.mode.Mode.TheVariants.{Sig}
+use Rattle.phase_history.specs.Histories.{entry_at}
 use Rattle.core_tests.specs.Worked.{worked_limits, one_wait, all_left, everyone_left}
 use Rattle.core_tests.proofs.Legal.{one_wait_is_legal, all_left_is_legal, everyone_left_is_legal, everyone_gone}
 use Rattle.core_tests.proofs.worked_laws.open_phases.Goals as goal

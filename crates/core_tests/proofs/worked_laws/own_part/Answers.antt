@@ -1,6 +1,6 @@
 -- The last event is of task 2.
 use Rattle.std.proofs.Common.{refl, [], ◌∷◌}
-use Rattle.phase_core.specs.phase_accum.Values.{sum_value}
+use Rattle.phase_accum.specs.Values.{sum_value}
 use Rattle.core_tests.specs.Worked.{two_signals, one_wait}
 use Rattle.core_tests.proofs.Legal.{others_came}
 use Rattle.core_tests.proofs.worked_laws.own_part.Goals as goal

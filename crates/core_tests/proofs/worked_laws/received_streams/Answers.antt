@@ -1,9 +1,9 @@
 -- What the waiter and the founder have received.
 use Rattle.std.proofs.Common.{refl, pos}
-use Rattle.phase_core.specs.phase_base.declared.mode.Mode.TheVariants.{Wait}
-use Rattle.phase_core.specs.phase_accum.Values.{sum_value}
-use Rattle.phase_core.specs.phase_accum.declared.outcome.Outcome.TheVariants.{Value}
-use Rattle.phase_core.specs.phase_history.Histories.{entry_at, founder}
+use Rattle.phase_base.specs.declared.mode.Mode.TheVariants.{Wait}
+use Rattle.phase_accum.specs.Values.{sum_value}
+use Rattle.phase_accum.specs.declared.outcome.Outcome.TheVariants.{Value}
+use Rattle.phase_history.specs.Histories.{entry_at, founder}
 use Rattle.core_tests.specs.Worked.{worked_limits, two_signals, one_wait}
 use Rattle.core_tests.proofs.Legal.{two_signals_is_legal, one_wait_is_legal}
 use Rattle.core_tests.proofs.worked_laws.received_streams.Goals as goal

@@ -1,8 +1,8 @@
 -- Task 1 alone has signalled.
 use Rattle.std.proofs.Common.{refl, None, [], ◌∷◌, arith}
-use Rattle.phase_core.specs.phase_accum.Values.{sum_value}
-use Rattle.phase_core.specs.phase_base.declared.mode.Mode.TheVariants.{Sig}
-use Rattle.phase_core.specs.phase_history.Histories.{entry_at}
+use Rattle.phase_accum.specs.Values.{sum_value}
+use Rattle.phase_base.specs.declared.mode.Mode.TheVariants.{Sig}
+use Rattle.phase_history.specs.Histories.{entry_at}
 use Rattle.core_tests.specs.Worked.{worked_limits, one_wait, late_child}
 use Rattle.core_tests.proofs.Legal.{one_wait_is_legal, late_child_is_legal, only_1_signalled, only_1_sent}
 use Rattle.core_tests.proofs.worked_laws.sends_of_tasks.Goals as goal

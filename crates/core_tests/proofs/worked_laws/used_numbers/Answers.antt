@@ -1,8 +1,8 @@
 -- By the starts, which are computed.
 use Rattle.std.proofs.Common.{refl, [], ◌∷◌, arith}
-use Rattle.phase_core.specs.phase_accum.Values.{sum_value}
-use Rattle.phase_core.specs.phase_base.declared.mode.Mode.TheVariants.{Wait}
-use Rattle.phase_core.specs.phase_history.Histories.{entry_at}
+use Rattle.phase_accum.specs.Values.{sum_value}
+use Rattle.phase_base.specs.declared.mode.Mode.TheVariants.{Wait}
+use Rattle.phase_history.specs.Histories.{entry_at}
 use Rattle.core_tests.specs.Worked.{worked_limits, founded, one_child, one_signal, one_wait}
 use Rattle.core_tests.proofs.Legal.{founded_is_legal, one_child_is_legal, one_wait_is_legal, one_wait_begins, one_child_begins, only_the_founder, nobody_came, children_stand, not_empty_founded}
 use Rattle.core_tests.proofs.worked_laws.used_numbers.Goals as goal

@@ -1,7 +1,7 @@
 use Rattle.std.proofs.Common.{◌≡◌, inl, inr, map, refl}
 use Rattle.std.specs.List.{All}
 use Rattle.stream_eval.specs.Results.{sink_values}
-use Rattle.stream_eval.specs.stream_lists.Lists.{lines_of, start_in}
+use Rattle.stream_lists.specs.Lists.{lines_of, start_in}
 use Rattle.stream_eval.proofs.SinkStarts.{outputs-are}
 use Rattle.graph_commands.proofs.answered.eval_asked.Goals as goal
 

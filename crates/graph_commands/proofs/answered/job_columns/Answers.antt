@@ -1,6 +1,6 @@
 use Rattle.std.proofs.Common.{◌≡◌, None, inl, inr, map, refl}
 use Rattle.stream_eval.specs.Results.{sink_values}
-use Rattle.stream_eval.specs.stream_lists.Lists.{lines_of}
+use Rattle.stream_lists.specs.Lists.{lines_of}
 use Rattle.graph_commands.proofs.Places.{sinks-within}
 use Rattle.graph_commands.proofs.answered.job_columns.Goals as goal
 

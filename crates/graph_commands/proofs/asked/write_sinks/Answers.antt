@@ -1,4 +1,4 @@
-use Rattle.stream_eval.specs.stream_lists.Jobs.{with_starts}
+use Rattle.stream_lists.specs.Jobs.{with_starts}
 use Rattle.graph_commands.proofs.Places.{sinks-within}
 use Rattle.graph_commands.proofs.asked.write_sinks.Goals as goal
 

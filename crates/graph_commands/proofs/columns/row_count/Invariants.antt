@@ -1,6 +1,6 @@
 use Rattle.std.proofs.Common.{◌≡◌, map, take}
 use Rattle.stream_eval.specs.Results.{sink_values}
-use Rattle.stream_eval.specs.stream_lists.Spans.{greatest}
+use Rattle.stream_lists.specs.Spans.{greatest}
 use Rattle.graph_commands.specs.ColumnTexts.{end_at}
 use Rattle.graph_commands.proofs.columns.row_count.Given as goal
 

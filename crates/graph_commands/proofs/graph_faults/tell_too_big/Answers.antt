@@ -1,5 +1,5 @@
 use Rattle.std.proofs.Common.{◌≡◌, decimal, rules}
-use Rattle.graph_show.specs.graph_base.Graphs.{name_at}
+use Rattle.graph_base.specs.Graphs.{name_at}
 use Rattle.graph_commands.proofs.graph_faults.tell_too_big.Goals as goal
 
 -- the parts are those of the line

@@ -1,5 +1,5 @@
 use Rattle.std.proofs.Common.{inr, refl, rules}
-use Rattle.stream_eval.specs.stream_lists.JobFields.{given}
+use Rattle.stream_lists.specs.JobFields.{given}
 use Rattle.graph_commands.proofs.job_file.job_of_graph.Goals as goal
 
 -- the files tell a job of which two tasks meet

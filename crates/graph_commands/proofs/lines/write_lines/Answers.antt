@@ -3,9 +3,9 @@ use Rattle.std.proofs.lemmas.List.{take_more, take_all}
 use Rattle.std.proofs.lemmas.Result.{err_from_is_err_and, on_err_weaker}
 use Rattle.stream_eval.specs.Results.{sink_output}
 use Rattle.graph_commands.specs.OutputTexts.{sink_text, text_of}
-use Rattle.graph_show.specs.graph_base.Graphs.{name_at}
-use Rattle.graph_show.specs.graph_base.declared.place.Place.TheVariants as place
-use Rattle.graph_show.proofs.watched_io_lemmas.Items.{flat_map-map-push, flat_map-map-rest}
+use Rattle.graph_base.specs.Graphs.{name_at}
+use Rattle.graph_base.specs.declared.place.Place.TheVariants as place
+use Rattle.watched_io.proofs.Items.{flat_map-map-push, flat_map-map-rest}
 use Rattle.graph_commands.proofs.Putting.{Puts-append, prefix_behind, prefix_of_put, prefix_within}
 use Rattle.graph_commands.proofs.lines.write_lines.Goals as goal
 

@@ -1,5 +1,5 @@
 use Rattle.std.proofs.Common.{◌≡◌, [], map, take}
-use Rattle.graph_show.specs.watched_io.Watched.{has_failed_of, inner_of}
+use Rattle.watched_io.specs.Watched.{has_failed_of, inner_of}
 use Rattle.stream_eval.specs.Results.{sink_output}
 use Rattle.graph_commands.specs.OutputTexts.{text_of}
 use Rattle.graph_commands.specs.Puts.{PutsBytes}

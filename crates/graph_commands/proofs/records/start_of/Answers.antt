@@ -3,8 +3,8 @@ use Rattle.std.proofs.lemmas.Bool.{true≢false}
 use Rattle.std.specs.List.{range_with_len}
 use Rattle.std.proofs.lemmas.List.Sums.{count_by-le-length, length-filter}
 use Rattle.std.proofs.lemmas.List.FromFn.{length-range_with_len}
-use Rattle.stream_eval.proofs.stream_lists_lemmas.Firsts.{filter-skip}
-use Rattle.stream_eval.proofs.stream_lists_lemmas.Basics.{one_more}
+use Rattle.stream_lists.proofs.Firsts.{filter-skip}
+use Rattle.stream_lists.proofs.Basics.{one_more}
 use Rattle.graph_commands.specs.Records.{begins_at, IsStart}
 use Rattle.graph_commands.proofs.Finding.{count-take}
 use Rattle.graph_commands.proofs.records.start_of.Goals as goal

@@ -1,11 +1,11 @@
 -- The loop goes through the tasks in their order, and stops at the first that is the sink.
 use Rattle.std.proofs.Common.{◌≡◌, ℕ, List, ◌<◌, ◌&&◌, length, ap, sym, ◌∙◌, Bool, arith, false}
 use Rattle.std.specs.Str.{bytes_eq}
-use Rattle.stream_eval.specs.stream_lists.Lists.{is_sink_at}
-use Rattle.stream_eval.specs.stream_lists.Jobs.{Job}
-use Rattle.stream_eval.proofs.stream_lists_lemmas.Basics.{find_in_range, find_none_in_range, one_more}
-use Rattle.graph_show.specs.graph_base.Graphs.{name_at}
-use Rattle.graph_show.specs.graph_base.declared.place.Place.TheVariants as place
+use Rattle.stream_lists.specs.Lists.{is_sink_at}
+use Rattle.stream_lists.specs.Jobs.{Job}
+use Rattle.stream_lists.proofs.Basics.{find_in_range, find_none_in_range, one_more}
+use Rattle.graph_base.specs.Graphs.{name_at}
+use Rattle.graph_base.specs.declared.place.Place.TheVariants as place
 use Rattle.graph_commands.proofs.sinks.find_sink.Goals as goal
 
 abbrev is_one : Job → List ℕ → ℕ → Bool

@@ -1,8 +1,8 @@
 use Rattle.std.proofs.Common.{◌≡◌, ℕ, ◌<◌, ◌&&◌, false}
 use Rattle.std.specs.Str.{bytes_eq}
-use Rattle.stream_eval.specs.stream_lists.Lists.{is_sink_at}
-use Rattle.graph_show.specs.graph_base.Graphs.{name_at}
-use Rattle.graph_show.specs.graph_base.declared.place.Place.TheVariants as place
+use Rattle.stream_lists.specs.Lists.{is_sink_at}
+use Rattle.graph_base.specs.Graphs.{name_at}
+use Rattle.graph_base.specs.declared.place.Place.TheVariants as place
 use Rattle.graph_commands.proofs.sinks.find_sink.Given as goal
 
 -- none of the tasks so far is the sink of this name

@@ -3,12 +3,12 @@ use Rattle.std.specs.declared.option.Option.{Option}
 use Rattle.std.proofs.lemmas.List.{length_push}
 use Rattle.std.proofs.lemmas.List.Elements.{All-push}
 use Rattle.std.proofs.lemmas.List.Sums.{count_by_more_yes, count_by_more_no}
-use Rattle.graph_show.specs.phase_accum.Sends.{AreSends}
-use Rattle.graph_show.specs.graph_base.Graphs.{Task, no_task, is_source, source_number, task_at}
-use Rattle.graph_show.specs.graph_lang.Samples.{AreSamplesOf}
-use Rattle.graph_show.specs.graph_lang.declared.sample.TheConstants.{TEXT_MAX}
-use Rattle.stream_eval.specs.stream_lists.JobFields.{items_of}
-use Rattle.stream_eval.proofs.stream_lists_lemmas.Basics.{source_within}
+use Rattle.phase_accum.specs.Sends.{AreSends}
+use Rattle.graph_base.specs.Graphs.{Task, no_task, is_source, source_number, task_at}
+use Rattle.graph_lang.specs.Samples.{AreSamplesOf}
+use Rattle.graph_lang.specs.declared.sample.TheConstants.{TEXT_MAX}
+use Rattle.stream_lists.specs.JobFields.{items_of}
+use Rattle.stream_lists.proofs.Basics.{source_within}
 use Rattle.graph_commands.specs.FileJobs.{AreFirstSamples, Explains, IsReached, Known, file_of}
 use Rattle.graph_commands.proofs.Counted.{items_of-push, known-same, length-items_of, samples-push}
 use Rattle.graph_commands.proofs.sources.read_sources.Goals as goal

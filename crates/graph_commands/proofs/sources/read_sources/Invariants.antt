@@ -1,9 +1,9 @@
 use Rattle.std.proofs.Common.{◌≡◌, ◌≤◌, ℕ, List, length}
 use Rattle.std.specs.List.{All}
-use Rattle.graph_show.specs.phase_accum.Sends.{AreSends}
-use Rattle.graph_show.specs.graph_base.Graphs.{source_number}
-use Rattle.graph_show.specs.graph_lang.declared.sample.TheConstants.{TEXT_MAX}
-use Rattle.stream_eval.specs.stream_lists.JobFields.{items_of}
+use Rattle.phase_accum.specs.Sends.{AreSends}
+use Rattle.graph_base.specs.Graphs.{source_number}
+use Rattle.graph_lang.specs.declared.sample.TheConstants.{TEXT_MAX}
+use Rattle.stream_lists.specs.JobFields.{items_of}
 use Rattle.graph_commands.specs.FileJobs.{AreFirstSamples}
 use Rattle.graph_commands.proofs.sources.read_sources.Given as goal
 

@@ -1,6 +1,6 @@
 use Rattle.std.proofs.Common.{◌∙◌, sym, arith, Bor, []}
 use Rattle.std.specs.Str.{bytes_eq}
-use Rattle.graph_text.specs.phase_base.Words.{Word}
+use Rattle.phase_base.specs.Words.{Word}
 use Rattle.graph_lang.proofs.Alls.{words-found, words-missed, words-none}
 use Rattle.graph_lang.proofs.body.contains.Goals as goal
 

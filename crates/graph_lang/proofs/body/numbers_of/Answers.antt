@@ -1,5 +1,5 @@
 use Rattle.std.proofs.Common.{◌≡◌, ◌∙◌, sym, ap, Bor, [], ◌++◌, ◌∷◌, take, get_or, Some, is_some, refl}
-use Rattle.graph_text.specs.phase_base.Words.{Word, is_name}
+use Rattle.phase_base.specs.Words.{Word, is_name}
 use Rattle.graph_base.specs.Names.{names_of, phaser_named}
 use Rattle.graph_lang.specs.WordValues.{or_zero, phaser_numbers}
 use Rattle.graph_lang.specs.Faults.{is_phaser}

@@ -1,7 +1,7 @@
 use Rattle.std.proofs.Common.{◌≡◌, drop, take, true}
 use Rattle.std.specs.List.{list_all}
 use Rattle.graph_text.specs.Plain.{plain}
-use Rattle.graph_text.specs.phase_base.Words.{is_name}
+use Rattle.phase_base.specs.Words.{is_name}
 use Rattle.graph_base.specs.Names.{names_of}
 use Rattle.graph_lang.specs.WordValues.{phaser_numbers}
 use Rattle.graph_lang.specs.Faults.{is_phaser}

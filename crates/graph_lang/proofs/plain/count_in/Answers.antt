@@ -3,7 +3,7 @@ use Rattle.std.proofs.Common.{◌≡◌, ◌<◌, ◌≤◌, ◌⊎◌, inl, inr
 use Rattle.std.specs.Fmt.{decimal}
 use Rattle.std.specs.Str.Parse.{AllDigits, digits_value}
 use Rattle.std.proofs.lemmas.List.{length-take-le}
-use Rattle.graph_base.specs.phase_accum.Sends.{value_max}
+use Rattle.phase_accum.specs.Sends.{value_max}
 use Rattle.graph_lang.proofs.Digits.{spells}
 use Rattle.graph_lang.proofs.PlainLines.{count-line, rest-is}
 use Rattle.graph_lang.proofs.plain.count_in.Goals as goal

@@ -2,7 +2,7 @@
 use Rattle.std.proofs.Common.{◌≡◌, ◌<◌, ◌++◌, ℕ, zero, suc, ℤ, List, [], length, drop, refl, subst, append-nil, append_assoc, length-append, arith}
 use Rattle.std.proofs.lemmas.List.{drop_all}
 use Rattle.csv.specs.Reading.{strip_bom}
-use Rattle.graph_base.proofs.phase_accum_lemmas.Parts.{AreSends-append}
+use Rattle.phase_accum.proofs.Parts.{AreSends-append}
 use Rattle.graph_lang.specs.PlainLines.{Leads}
 use Rattle.graph_lang.proofs.PlainLines.{bare-end, leads-none, samples-whole}
 use Rattle.graph_lang.proofs.plain.parts_have_samples.Goals as goal

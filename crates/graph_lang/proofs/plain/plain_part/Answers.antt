@@ -4,8 +4,8 @@ use Rattle.std.proofs.lemmas.Int.{to_z-of_z}
 use Rattle.std.proofs.lemmas.List.{length-drop}
 use mir.Syntax.{w64}
 use mir.Val.{SFits}
-use Rattle.graph_base.specs.phase_accum.Sends.{AreSends}
-use Rattle.graph_base.proofs.phase_accum_lemmas.Parts.{AreSends-append}
+use Rattle.phase_accum.specs.Sends.{AreSends}
+use Rattle.phase_accum.proofs.Parts.{AreSends-append}
 use Rattle.graph_lang.specs.PlainLines.{Leads}
 use Rattle.graph_lang.proofs.PlainLines.{bare-more, line-more-at, rest-is}
 use Rattle.graph_lang.proofs.plain.plain_part.Goals as goal

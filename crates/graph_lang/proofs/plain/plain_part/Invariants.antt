@@ -1,6 +1,6 @@
 use Rattle.std.proofs.Common.{ℤ, List, ◌≡◌, ◌≤◌, ◌<◌, ◌-◌, ◌++◌, length, drop}
 use Rattle.csv.specs.Reading.{strip_bom}
-use Rattle.graph_base.specs.phase_accum.Sends.{AreSends}
+use Rattle.phase_accum.specs.Sends.{AreSends}
 use Rattle.graph_lang.specs.PlainLines.{Leads}
 use Rattle.graph_lang.proofs.plain.plain_part.Given as goal
 

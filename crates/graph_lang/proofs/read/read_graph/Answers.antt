@@ -1,6 +1,6 @@
 use Rattle.std.proofs.Common.{◌∙◌, ap, arith, Err, [], List, ℕ, map, Bor, subst}
 use Rattle.std.proofs.lemmas.Result.{err_from_is_err_and}
-use Rattle.graph_text.specs.phase_base.Lists.{without_cr}
+use Rattle.phase_base.specs.Lists.{without_cr}
 use Rattle.graph_text.specs.Plain.{plain}
 use Rattle.graph_lang.specs.Reads.{Tells, version_of, without_heading}
 use Rattle.graph_lang.proofs.ReadLines.{lines_in, continues-more, continues-fault, continues-all}

@@ -8,7 +8,7 @@ use Rattle.csv.specs.Records.{fields_of}
 use Rattle.csv.specs.Reading.{Reached, default_config, strip_bom}
 use Rattle.csv.specs.declared.parser.State.TheVariants as st
 use Rattle.csv.proofs.ReadFacts.{rows-more}
-use Rattle.graph_base.proofs.phase_accum_lemmas.Parts.{AreSends-append}
+use Rattle.phase_accum.proofs.Parts.{AreSends-append}
 use Rattle.graph_lang.specs.Samples.{row_of}
 use Rattle.graph_lang.proofs.Shrinks.{read_leaves, length-strip_bom-le}
 use Rattle.graph_lang.proofs.sample.records_of.Goals as goal

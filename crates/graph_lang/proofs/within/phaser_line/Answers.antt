@@ -1,7 +1,7 @@
 use Rattle.std.proofs.Common.{rules, ◌≡◌, Some, true, option_map, refl, sym, ◌∙◌}
 use Rattle.std.specs.Option.{option_map_or}
 use Rattle.std.proofs.lemmas.Option.{cond_some}
-use Rattle.graph_text.specs.phase_base.Numbers.{nat_value}
+use Rattle.phase_base.specs.Numbers.{nat_value}
 use Rattle.graph_text.specs.Lines.{single_of as function_words}
 use Rattle.graph_lang.specs.WordValues.{single_of}
 use Rattle.graph_lang.specs.Faults.{is_bound_within, is_function_within}

@@ -1,8 +1,8 @@
 use Rattle.std.proofs.Common.{◌≡◌, rules, arith, is_some, ◌∙◌, sym, ap, Bor, [], ◌++◌, ◌∷◌, false, take, get_or, map, FitsSigned, w64, to_z-of_z}
 use Rattle.std.proofs.lemmas.Option.{cond_some}
-use Rattle.graph_text.specs.phase_base.Words.{Word}
+use Rattle.phase_base.specs.Words.{Word}
 use Rattle.graph_text.specs.Plain.{plain}
-use Rattle.graph_text.specs.phase_base.Numbers.{is_int, int_value}
+use Rattle.phase_base.specs.Numbers.{is_int, int_value}
 use Rattle.graph_lang.specs.Faults.{is_tap_within}
 use Rattle.graph_lang.proofs.Alls.{is_some-if, words-all, words-end, words-first, words-pass, words-more, words-stop}
 use Rattle.graph_lang.proofs.within.taps_of.Goals as goal

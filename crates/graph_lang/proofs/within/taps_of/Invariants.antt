@@ -1,7 +1,7 @@
 use Rattle.std.proofs.Common.{◌≡◌, drop, take, true, map}
 use Rattle.std.specs.List.{list_all}
 use Rattle.graph_text.specs.Plain.{plain}
-use Rattle.graph_text.specs.phase_base.Numbers.{is_int, int_value}
+use Rattle.phase_base.specs.Numbers.{is_int, int_value}
 use Rattle.graph_lang.specs.Faults.{is_tap_within}
 use Rattle.graph_lang.proofs.within.taps_of.Given as goal
 

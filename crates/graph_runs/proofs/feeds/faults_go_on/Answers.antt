@@ -1,5 +1,5 @@
 -- The turn leads to a moment that has run.
-use Rattle.stream_lists.specs.graph_base.Graphs.{task_at}
+use Rattle.graph_base.specs.Graphs.{task_at}
 use Rattle.graph_runs.proofs.Stepping.{line_sizes}
 use Rattle.graph_runs.proofs.FedFaults.{fault_fed}
 use Rattle.graph_runs.proofs.feeds.faults_go_on.Goals as goal

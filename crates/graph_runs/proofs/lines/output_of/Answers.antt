@@ -1,7 +1,7 @@
 -- By the registration of the output.
 use Rattle.std.proofs.Common.{◌<◌, length, get_or, ap, sym, subst, ◌∙◌}
-use Rattle.stream_lists.specs.graph_base.Graphs.{task_at}
-use Rattle.stream_lists.specs.graph_base.Registrations.{registrations_of, no_registration}
+use Rattle.graph_base.specs.Graphs.{task_at}
+use Rattle.graph_base.specs.Registrations.{registrations_of, no_registration}
 use Rattle.graph_runs.specs.TaskPlaces.{registration_at, registration_of_output}
 use Rattle.graph_runs.proofs.Standing.{of_output}
 use Rattle.graph_runs.proofs.Outputs.{output_there}

@@ -1,9 +1,9 @@
 -- By the number of the sink on its phaser.
 use Rattle.std.proofs.Common.{◌≡◌, ℕ, ◌<◌, ◌≤◌, Some, None, Bool, true, false, length, get_or, refl, inr, sym, ◌∙◌}
-use Rattle.stream_lists.proofs.graph_base_lemmas.Registered.{registrations-phasers}
+use Rattle.graph_base.proofs.Registered.{registrations-phasers}
 use Rattle.stream_lists.specs.Jobs.{Job}
 use Rattle.stream_lists.specs.Spans.{lengths_of}
-use Rattle.stream_lists.specs.graph_base.Graphs.{task_at}
+use Rattle.graph_base.specs.Graphs.{task_at}
 use Rattle.graph_runs.specs.InTime.{BeginsInTime}
 use Rattle.graph_runs.specs.Moments.{Moment, HasRun, input_at, started}
 use Rattle.graph_runs.specs.Nexts.{first_missing, number_on}

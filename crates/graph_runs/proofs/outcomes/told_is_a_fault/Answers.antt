@@ -1,5 +1,5 @@
 -- By what the turn answers: a wait's outcome, or a value that was made.
-use Rattle.stream_lists.specs.graph_base.Graphs.{task_at}
+use Rattle.graph_base.specs.Graphs.{task_at}
 use Rattle.graph_runs.proofs.Stepping.{line_sizes}
 use Rattle.graph_runs.proofs.ToldFaults.{told_fault}
 use Rattle.graph_runs.proofs.outcomes.told_is_a_fault.Goals as goal

@@ -1,5 +1,5 @@
 -- Event by event.
-use Rattle.stream_lists.specs.graph_base.Graphs.{task_at}
+use Rattle.graph_base.specs.Graphs.{task_at}
 use Rattle.graph_runs.proofs.Stepping.{line_sizes}
 use Rattle.graph_runs.proofs.AnsweredInTurn.{opening_answers_none, turn_answers_none, turn_answers_one}
 use Rattle.graph_runs.proofs.outcomes.turns_answer_none.Goals as goal

@@ -1,5 +1,5 @@
 -- By what the task has received there.
-use Rattle.stream_lists.specs.graph_base.Graphs.{task_at}
+use Rattle.graph_base.specs.Graphs.{task_at}
 use Rattle.graph_runs.specs.Moments.{input_at}
 use Rattle.graph_runs.proofs.PartsLemmas.{with_history, sees_end}
 use Rattle.graph_runs.proofs.parts.ends.Goals as goal

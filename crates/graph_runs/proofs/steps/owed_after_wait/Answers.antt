@@ -1,8 +1,8 @@
 -- What a filter answers is what it owes.
 use Rattle.std.proofs.Common.{◌∷◌, ◌++◌, [], ap, subst, sym, ◌∙◌, to_z-of_z}
-use Rattle.stream_lists.specs.graph_base.Graphs.{task_at}
-use Rattle.stream_lists.specs.stream_filters.Filter.{output_after}
-use Rattle.stream_lists.specs.stream_filters.Range.{ranged}
+use Rattle.graph_base.specs.Graphs.{task_at}
+use Rattle.stream_filters.specs.Filter.{output_after}
+use Rattle.stream_filters.specs.Range.{ranged}
 use Rattle.graph_runs.specs.Steps.{HasFilter}
 use Rattle.graph_runs.proofs.Outputs.{filter_owes}
 use Rattle.graph_runs.proofs.steps.owed_after_wait.Goals as goal

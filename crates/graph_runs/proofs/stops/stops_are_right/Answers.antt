@@ -4,8 +4,8 @@ use mathlib.Core.List.{IsPrefix}
 use Rattle.stream_lists.specs.Jobs.{with_samples}
 use Rattle.stream_lists.specs.Lists.{numbers_of, taken_from}
 use Rattle.stream_lists.specs.Spans.{span_in}
-use Rattle.stream_lists.specs.graph_base.Graphs.{task_at}
-use Rattle.stream_lists.specs.graph_base.TaskLines.{IsGraph}
+use Rattle.graph_base.specs.Graphs.{task_at}
+use Rattle.graph_base.specs.TaskLines.{IsGraph}
 use Rattle.graph_runs.specs.Moments.{started}
 use Rattle.graph_runs.proofs.Joined.{whole}
 use Rattle.graph_runs.proofs.StopsRight.{stop_fed, open_at}

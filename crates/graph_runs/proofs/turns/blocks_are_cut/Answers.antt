@@ -1,5 +1,5 @@
 -- By what the task has begun.
-use Rattle.stream_lists.specs.graph_base.Graphs.{task_at}
+use Rattle.graph_base.specs.Graphs.{task_at}
 use Rattle.graph_runs.proofs.Blocks.{block_some, block_few, block_most, block_before, may_go_on}
 use Rattle.graph_runs.proofs.turns.blocks_are_cut.Goals as goal
 

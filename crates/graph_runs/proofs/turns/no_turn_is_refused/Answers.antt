@@ -1,8 +1,8 @@
 -- By what the table looks at, row by row.
 use Rattle.std.proofs.Common.{◌≡◌, ℕ, Option, Some, None, true, is_some, refl, subst}
-use Rattle.phase_history.specs.phase_accum.Sends.{AreSends}
-use Rattle.stream_lists.specs.graph_base.Graphs.{task_at}
-use Rattle.stream_lists.specs.graph_base.TaskLines.{IsGraph}
+use Rattle.phase_accum.specs.Sends.{AreSends}
+use Rattle.graph_base.specs.Graphs.{task_at}
+use Rattle.graph_base.specs.TaskLines.{IsGraph}
 use Rattle.stream_lists.specs.Jobs.{Job, samples_at}
 use Rattle.stream_lists.specs.Ranges.{Where}
 use Rattle.graph_runs.specs.Moments.{Moment}

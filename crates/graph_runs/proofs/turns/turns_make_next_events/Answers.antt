@@ -2,7 +2,7 @@
 use Rattle.graph_runs.proofs.Stepping.{line_sizes}
 use Rattle.graph_runs.proofs.Turning.{turn_makes_next, childless_makes_next}
 use Rattle.graph_runs.proofs.SizedTurns.{event_keeps}
-use Rattle.stream_lists.specs.graph_base.Graphs.{task_at}
+use Rattle.graph_base.specs.Graphs.{task_at}
 use Rattle.graph_runs.proofs.turns.turns_make_next_events.Goals as goal
 
 pub returns-clause-next : goal.returns-clause-next

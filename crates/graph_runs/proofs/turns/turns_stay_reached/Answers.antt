@@ -1,7 +1,7 @@
 -- By what the turn answers, and for turns in a row one after the other.
 use Rattle.std.proofs.Common.{ℕ, List, [], ◌∷◌}
-use Rattle.stream_lists.specs.graph_base.Graphs.{task_at}
-use Rattle.stream_lists.specs.graph_base.TaskLines.{IsGraph}
+use Rattle.graph_base.specs.Graphs.{task_at}
+use Rattle.graph_base.specs.TaskLines.{IsGraph}
 use Rattle.stream_lists.specs.Jobs.{Job}
 use Rattle.graph_runs.specs.Moments.{Moment}
 use Rattle.graph_runs.specs.Answers.{answer_of_turn, after_answer, after_turns}

@@ -1,6 +1,6 @@
 use Rattle.std.proofs.Common.{◌≡◌, List, ℕ, OnOk, codes, ap, subst}
-use Rattle.graph_lang.specs.graph_base.Graphs.{name_at, phaser_at}
-use Rattle.graph_lang.specs.graph_base.declared.place.Place.TheVariants as place
+use Rattle.graph_base.specs.Graphs.{name_at, phaser_at}
+use Rattle.graph_base.specs.declared.place.Place.TheVariants as place
 use Rattle.graph_show.specs.Drawings.{phaser_notes}
 use Rattle.graph_show.proofs.WholeNodes.{whole-node}
 use Rattle.graph_show.proofs.nodes.put_phaser.Goals as goal

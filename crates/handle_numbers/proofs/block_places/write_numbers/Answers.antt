@@ -1,7 +1,7 @@
 -- One more number stands behind those before it.
 use Rattle.std.proofs.Common.{◌≡◌, ◌<◌, length, pos, set, w64, to_z, of_z, ap, ◌∙◌, arith}
 use Rattle.std.proofs.lemmas.Int.{ints}
-use Rattle.phase_core.specs.phase_accum.declared.outcome.Outcome.TheVariants as outcome
+use Rattle.phase_accum.specs.declared.outcome.Outcome.TheVariants as outcome
 use Rattle.handle_numbers.proofs.BlockWaits.{write-more}
 use Rattle.handle_numbers.proofs.block_places.write_numbers.Goals as goal
 

@@ -1,6 +1,6 @@
 -- A stream answers its words, and those of help on it.
 use Rattle.std.proofs.Common.{◌≡◌, [], ◌∷◌, codes}
-use Rattle.phase_commands.specs.phase_words.CommandLine.{texts}
+use Rattle.phase_words.specs.CommandLine.{texts}
 use Rattle.phase.proofs.cli.stream_own.Goals as goal
 
 pub returns-in-Behind-clause-answers : goal.returns-in-Behind-clause-answers

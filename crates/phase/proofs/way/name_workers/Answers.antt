@@ -4,7 +4,7 @@ use Rattle.std.specs.List.{list_any}
 use Rattle.std.proofs.Math.ListN.{drop_of_length-le}
 use Rattle.std.proofs.lemmas.List.{length-map, get_or-map}
 use Rattle.phase.specs.Ways.{names_workers}
-use Rattle.phase_commands.specs.phase_words.CommandLine.{texts}
+use Rattle.phase_words.specs.CommandLine.{texts}
 use Rattle.phase.proofs.Words.{any-here, any-pass}
 use Rattle.phase.proofs.way.name_workers.Goals as goal
 

@@ -1,7 +1,7 @@
 use Rattle.std.proofs.Common.{◌≡◌, drop}
 use Rattle.std.specs.List.{list_any}
 use Rattle.phase.specs.Ways.{names_workers}
-use Rattle.phase_commands.specs.phase_words.CommandLine.{texts}
+use Rattle.phase_words.specs.CommandLine.{texts}
 use Rattle.phase.proofs.way.name_workers.Given as goal
 
 -- none of the words before this one does

@@ -1,10 +1,10 @@
 -- One more value is held behind those before it.
 use Rattle.std.proofs.Common.{◌≡◌, ◌<◌, ◌≤◌, pos, length, take, get_or, sym, subst, ◌∙◌, arith}
 use Rattle.std.proofs.lemmas.List.{take_more, take_all, length-take-le}
-use Rattle.phase_core.specs.phase_accum.Parcels.{StandsForSends}
-use Rattle.phase_core.specs.phase_accum.Sends.{IsSend}
-use Rattle.phase_core.proofs.phase_accum_lemmas.Parts.{send-same}
-use Rattle.phase_core.proofs.phase_ring_lemmas.Held.{AreSends-at}
+use Rattle.phase_accum.specs.Parcels.{StandsForSends}
+use Rattle.phase_accum.specs.Sends.{IsSend}
+use Rattle.phase_accum.proofs.Parts.{send-same}
+use Rattle.phase_ring.proofs.Held.{AreSends-at}
 use Rattle.phase_any.proofs.Sending.{no-fault, not-no-value}
 use Rattle.phase_any.proofs.sends.held.Goals as goal
 

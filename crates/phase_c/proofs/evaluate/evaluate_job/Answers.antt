@@ -2,7 +2,7 @@ use Rattle.std.proofs.Common.{◌≡◌, ◌≤◌, ◌++◌, true, length, map,
 use Rattle.std.specs.List.{sum, sum_by}
 use Rattle.std.proofs.lemmas.List.Sums.{sum-map}
 use Rattle.stream_eval.specs.Results.{sink_values}
-use Rattle.stream_eval.specs.stream_lists.Lists.{lines_of}
+use Rattle.stream_lists.specs.Lists.{lines_of}
 use Rattle.phase_c.specs.SinkValues.{count_in}
 use Rattle.phase_c.proofs.Writing.{counts-are, values-are}
 use Rattle.phase_c.proofs.evaluate.evaluate_job.Goals as goal

@@ -1,5 +1,5 @@
 use Rattle.std.proofs.Common.{inr, refl, rules}
-use Rattle.stream_eval.specs.stream_lists.JobFields.{given}
+use Rattle.stream_lists.specs.JobFields.{given}
 use Rattle.phase_c.proofs.evaluate.job_lent.Goals as goal
 
 -- the text and the samples tell a job of which two tasks meet

@@ -1,8 +1,8 @@
 use Rattle.std.proofs.Common.{rules, ◌≡◌, ◌<◌, ℕ, ℤ, List, pos, length, get_or, w64, to_z, of_z, FitsSigned, ◌∙◌, arith}
 use Rattle.std.proofs.lemmas.Int.{to_z-of_z}
 use Rattle.std.proofs.lemmas.List.{length-set}
-use Rattle.graph_numbers.specs.graph_lang.phase_accum.Sends.{IsSend}
-use Rattle.stream_eval.specs.stream_filters.Filter.{StandsFor}
+use Rattle.phase_accum.specs.Sends.{IsSend}
+use Rattle.stream_filters.specs.Filter.{StandsFor}
 use Rattle.phase_c.specs.Filtered.{output_behind}
 use Rattle.phase_c.proofs.Streams.{behind_more, fits_more, step_fails, step_gives, step_stands, written_more}
 use Rattle.phase_c.proofs.filter.steps.Goals as goal

@@ -1,6 +1,6 @@
 use Rattle.std.proofs.Common.{rules, ◌++◌, ◌∷◌, [], ℕ, ℤ, pos, get_or, take, subst, w64, FitsSigned, ◌∙◌}
 use Rattle.std.proofs.lemmas.Int.{to_z-of_z}
-use Rattle.stream_eval.specs.stream_filters.Filter.{StandsFor}
+use Rattle.stream_filters.specs.Filter.{StandsFor}
 use Rattle.phase_c.proofs.Streams.{one_more}
 use Rattle.phase_c.proofs.filter.take_in.Goals as goal
 

@@ -1,5 +1,5 @@
 use Rattle.std.proofs.Common.{◌≡◌, ◌++◌, ℤ, List, take}
-use Rattle.stream_eval.specs.stream_filters.Filter.{StandsFor}
+use Rattle.stream_filters.specs.Filter.{StandsFor}
 use Rattle.phase_c.proofs.filter.take_in.Given as goal
 
 -- the filter has taken the samples before this one

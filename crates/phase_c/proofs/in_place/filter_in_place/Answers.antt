@@ -1,5 +1,5 @@
 use Rattle.std.proofs.Common.{◌≡◌, ◌<◌, ◌++◌, ℕ, length, drop, refl, ap, ◌∙◌, subst, arith}
-use Rattle.stream_eval.specs.stream_filters.Filter.{by_shift}
+use Rattle.stream_filters.specs.Filter.{by_shift}
 use Rattle.phase_c.specs.Filtered.{AreOfFilter, RefusesBlock}
 use Rattle.phase_c.proofs.Streams.{filters_all, filters_to}
 use Rattle.phase_c.proofs.in_place.filter_in_place.Goals as goal

@@ -1,6 +1,6 @@
 use Rattle.std.proofs.Common.{◌≡◌, ◌++◌, ℤ, List, length, take, drop}
-use Rattle.graph_numbers.specs.graph_lang.phase_accum.Sends.{AreSends}
-use Rattle.stream_eval.specs.stream_filters.Filter.{StandsFor}
+use Rattle.phase_accum.specs.Sends.{AreSends}
+use Rattle.stream_filters.specs.Filter.{StandsFor}
 use Rattle.phase_c.specs.Filtered.{first_outputs}
 use Rattle.phase_c.proofs.in_place.steps_in_place.Given as goal
 

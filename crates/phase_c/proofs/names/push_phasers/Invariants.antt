@@ -1,7 +1,7 @@
 -- The names of the phasers before this one stand behind what was there.
 use Rattle.std.proofs.Common.{◌≡◌, ◌++◌}
 use Rattle.std.specs.List.{flat_map, range_with_len}
-use Rattle.graph_numbers.specs.graph_lang.graph_base.declared.place.Place.TheVariants as place
+use Rattle.graph_base.specs.declared.place.Place.TheVariants as place
 use Rattle.phase_c.specs.Names.{name_line}
 use Rattle.phase_c.proofs.names.push_phasers.Given as goal
 

@@ -1,6 +1,6 @@
 -- One more name, with its line end, stands behind those before it.
 use Rattle.std.proofs.Common.{◌∙◌}
-use Rattle.graph_numbers.specs.graph_lang.graph_base.declared.place.Place.TheVariants as place
+use Rattle.graph_base.specs.declared.place.Place.TheVariants as place
 use Rattle.phase_c.specs.Names.{name_line}
 use Rattle.phase_c.proofs.Naming.{names-more}
 use Rattle.phase_c.proofs.names.push_tasks.Goals as goal

@@ -1,7 +1,7 @@
 use Rattle.std.proofs.Common.{◌<◌, ◌++◌, ◌∷◌, [], ℕ, Bool, length, ap, sym, ◌∙◌, arith}
 use Rattle.std.proofs.lemmas.List.Elements.{All-push}
-use Rattle.graph_numbers.specs.graph_lang.graph_base.Graphs.{is_source, task_at}
-use Rattle.stream_eval.proofs.stream_lists_lemmas.Firsts.{filter-skip, filter-take}
+use Rattle.graph_base.specs.Graphs.{is_source, task_at}
+use Rattle.stream_lists.proofs.Firsts.{filter-skip, filter-take}
 use Rattle.phase_c.proofs.names.sources_of.Goals as goal
 use Rattle.phase_c.proofs.names.sources_of.Goals.{then-is_source+in_ok-push, else-is_source}
 

@@ -1,5 +1,5 @@
 use Rattle.std.proofs.Common.{rules, pos, get_or, w64, FitsSigned}
-use Rattle.stream_eval.proofs.stream_lists_lemmas.phase_accum_lemmas.Parts.{can_send}
+use Rattle.phase_accum.proofs.Parts.{can_send}
 use Rattle.phase_c.proofs.Cuts.{is_lowest, sends_more}
 use Rattle.phase_c.proofs.samples.first_no_sample.Goals as goal
 

@@ -1,5 +1,5 @@
 use Rattle.std.proofs.Common.{take}
-use Rattle.graph_numbers.specs.graph_lang.phase_accum.Sends.{AreSends}
+use Rattle.phase_accum.specs.Sends.{AreSends}
 use Rattle.phase_c.proofs.samples.first_no_sample.Given as goal
 
 -- the numbers before this place are samples

@@ -1,9 +1,9 @@
 use Rattle.std.proofs.Common.{◌≡◌, ◌≤◌, ◌+◌, ℕ, length, take, get_or, ap, sym, subst, ◌∙◌, arith}
 use Rattle.std.proofs.lemmas.List.{length_push, length-take-le, length-drop}
 use Rattle.std.proofs.lemmas.List.Elements.{All-push}
-use Rattle.graph_numbers.specs.graph_lang.phase_accum.Sends.{AreSends}
-use Rattle.stream_eval.specs.stream_lists.declared.job.TheConstants.{SAMPLES_MAX}
-use Rattle.stream_eval.proofs.stream_lists_lemmas.phase_accum_lemmas.Parts.{AreSends-take, AreSends-drop}
+use Rattle.phase_accum.specs.Sends.{AreSends}
+use Rattle.stream_lists.specs.declared.job.TheConstants.{SAMPLES_MAX}
+use Rattle.phase_accum.proofs.Parts.{AreSends-take, AreSends-drop}
 use Rattle.phase_c.proofs.Cuts.{cut_more, sum_left}
 use Rattle.phase_c.proofs.samples.lists_of.Goals as goal
 

@@ -1,8 +1,8 @@
 use Rattle.std.proofs.Common.{◌≡◌, ◌≤◌, ◌++◌, length, drop}
 use Rattle.std.specs.List.{All, sum}
-use Rattle.graph_numbers.specs.graph_lang.phase_accum.Sends.{AreSends}
-use Rattle.stream_eval.specs.stream_lists.JobFields.{items_of}
-use Rattle.stream_eval.specs.stream_lists.declared.job.TheConstants.{SAMPLES_MAX}
+use Rattle.phase_accum.specs.Sends.{AreSends}
+use Rattle.stream_lists.specs.JobFields.{items_of}
+use Rattle.stream_lists.specs.declared.job.TheConstants.{SAMPLES_MAX}
 use Rattle.phase_c.specs.Lent.{cut}
 use Rattle.phase_c.proofs.samples.lists_of.Given as goal
 

@@ -1,6 +1,6 @@
 use Rattle.std.proofs.Common.{◌≡◌, ◌<◌, length}
 use Rattle.std.specs.List.{All, filter, range_with_len}
-use Rattle.graph_numbers.specs.graph_lang.graph_base.Graphs.{is_sink, task_at}
+use Rattle.graph_base.specs.Graphs.{is_sink, task_at}
 use Rattle.phase_c.proofs.sinks.sinks_of.Given as goal
 
 -- the sinks among the tasks before this one

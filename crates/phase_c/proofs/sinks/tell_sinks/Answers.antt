@@ -1,7 +1,7 @@
 use Rattle.std.proofs.Common.{◌≡◌, ℕ, ℤ, true, map, ap, subst, ◌∙◌, rules}
-use Rattle.graph_numbers.specs.graph_lang.graph_base.TaskLines.{IsGraph}
-use Rattle.stream_eval.specs.stream_lists.Lists.{sinks_of, start_in}
-use Rattle.stream_eval.specs.stream_lists.Spans.{span_in}
+use Rattle.graph_base.specs.TaskLines.{IsGraph}
+use Rattle.stream_lists.specs.Lists.{sinks_of, start_in}
+use Rattle.stream_lists.specs.Spans.{span_in}
 use Rattle.phase_c.specs.Evaluations.{start_number}
 use Rattle.phase_c.specs.Lent.{sinks_in}
 use Rattle.phase_c.proofs.Counting.{steps_are_counts}

@@ -1,5 +1,5 @@
 use Rattle.std.proofs.Common.{◌≡◌, length, map, take}
-use Rattle.stream_eval.specs.stream_lists.Spans.{span_in}
+use Rattle.stream_lists.specs.Spans.{span_in}
 use Rattle.phase_c.proofs.sinks.write_counts.Given as goal
 
 -- the counts of the sinks before this one were written

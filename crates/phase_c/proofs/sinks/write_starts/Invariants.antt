@@ -1,5 +1,5 @@
 use Rattle.std.proofs.Common.{◌≡◌, length, map, take}
-use Rattle.stream_eval.specs.stream_lists.Lists.{start_in}
+use Rattle.stream_lists.specs.Lists.{start_in}
 use Rattle.phase_c.specs.Evaluations.{start_number}
 use Rattle.phase_c.proofs.sinks.write_starts.Given as goal
 

@@ -1,6 +1,6 @@
 use Rattle.std.proofs.Common.{inl, inr, refl, subst}
 use Rattle.phase_words.specs.CommandLine.{Asked, texts}
-use Rattle.phase_replay.specs.watched_io.States.{reader_state, writer_state}
+use Rattle.watched_io.specs.States.{reader_state, writer_state}
 use Rattle.phase_commands.specs.Ends.{EndsAs}
 use Rattle.phase_commands.proofs.Asking.{asks-one, failed-as, leaves-asked, may-end-asked}
 use Rattle.phase_words.proofs.Answering.{may-end-answered, refused-silent, unbegun}

@@ -1,6 +1,6 @@
 -- Where no earlier row applies, the ring's refusal is the phase's, and there is none from the top on.
 use Rattle.std.proofs.Common.{◌≤◌, Some, None, sym, ap, ◌∙◌, arith}
-use Rattle.phase_registry.specs.phase_base.declared.limits.TheConstants.{SENDS_MAX}
+use Rattle.phase_base.specs.declared.limits.TheConstants.{SENDS_MAX}
 use Rattle.phase_ring.specs.Slots.{merge_refusal}
 use Rattle.phase_core.proofs.SignalRows.{phase_by_ring, unused_takes, none-of, some-of}
 use Rattle.phase_core.proofs.list_refusals.list_refusal.Goals as goal

@@ -1,8 +1,8 @@
 -- A phase that refuses is the first that does.
 use Rattle.std.proofs.Common.{◌≤◌, List, length, refl, sym, ap, ◌∙◌, arith}
 use Rattle.phase_ring.proofs.Blocks.{drop-all}
-use Rattle.phase_history.specs.phase_accum.Parcels.{Parcel}
-use Rattle.phase_registry.specs.phase_base.Lists.{first_row}
+use Rattle.phase_accum.specs.Parcels.{Parcel}
+use Rattle.phase_base.specs.Lists.{first_row}
 use Rattle.phase_core.specs.Blocks.{block_rows}
 use Rattle.phase_core.proofs.SignalRows.{rows_at, first_or-some, none-of, first_or-past, rows_of_new}
 use Rattle.phase_core.proofs.list_refusals.lists_refusal.Goals as goal

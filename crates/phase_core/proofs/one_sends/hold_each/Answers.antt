@@ -2,8 +2,8 @@
 use Rattle.std.proofs.Common.{◌<◌, pos, length, get_or, ◌∙◌, arith}
 use Rattle.std.proofs.lemmas.List.{length-set}
 use Rattle.phase_ring.proofs.Held.{AreSends-at}
-use Rattle.phase_history.specs.phase_accum.Sends.{IsSend}
-use Rattle.phase_history.proofs.phase_accum_lemmas.Parts.{send-same}
+use Rattle.phase_accum.specs.Sends.{IsSend}
+use Rattle.phase_accum.proofs.Parts.{send-same}
 use Rattle.phase_core.proofs.OneSends.{stand_more}
 use Rattle.phase_core.proofs.one_sends.hold_each.Goals as goal
 

@@ -1,6 +1,6 @@
 use Rattle.std.proofs.Common.{◌≡◌, ap, arith}
 use Rattle.std.specs.Prelude.{unwrap_or}
-use Rattle.phase_registry.specs.phase_base.Members.{least, wait_phases}
+use Rattle.phase_base.specs.Members.{least, wait_phases}
 use Rattle.phase_ring.specs.declared.role.Role.TheVariants.{Signaller, Waiter}
 use Rattle.phase_history.specs.Histories.{members_of, done_of}
 use Rattle.phase_core.proofs.Missing.{is_in-who_have_to}

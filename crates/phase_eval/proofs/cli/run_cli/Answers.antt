@@ -1,7 +1,7 @@
 use Rattle.std.proofs.Common.{inl, inr, refl, sym, subst, ◌∙◌}
 use Rattle.phase_words.proofs.Answering.{may-end-answered, may-end-taken, refused-silent, unbegun}
 use Rattle.phase_words.specs.RunLine.{Run}
-use Rattle.graph_commands.specs.watched_io.States.{writer_state}
+use Rattle.watched_io.specs.States.{writer_state}
 use Rattle.phase_eval.specs.Ends.{EndsAsEval}
 use Rattle.phase_eval.proofs.cli.run_cli.Goals as goal
 

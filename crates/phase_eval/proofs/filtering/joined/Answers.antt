@@ -1,7 +1,7 @@
 -- One more part behind those before it.
 use Rattle.std.proofs.Common.{◌≡◌, ◌≤◌, ◌++◌, ℤ, List, [], length, sym, subst, rules, arith}
-use Rattle.graph_commands.specs.stream_eval.Parts.{ArePart}
-use Rattle.graph_commands.specs.stream_eval.stream_filters.Filter.{outputs}
+use Rattle.stream_eval.specs.Parts.{ArePart}
+use Rattle.stream_filters.specs.Filter.{outputs}
 use Rattle.phase_eval.specs.FilterParts.{IsFilterPart}
 use Rattle.phase_eval.proofs.filtering.joined.Goals as goal
 

@@ -1,6 +1,6 @@
 use Rattle.std.proofs.Common.{◌≤◌, length}
-use Rattle.graph_commands.specs.stream_eval.Parts.{ArePart}
-use Rattle.graph_commands.specs.stream_eval.stream_filters.Filter.{outputs}
+use Rattle.stream_eval.specs.Parts.{ArePart}
+use Rattle.stream_filters.specs.Filter.{outputs}
 use Rattle.phase_eval.proofs.filtering.joined.Given as goal
 
 -- the values so far are those up to this place

@@ -1,6 +1,6 @@
 -- One more part behind those before it.
 use Rattle.std.proofs.Common.{◌≡◌, ◌≤◌, ◌++◌, ℕ, ℤ, List, [], length, sym, subst, rules, arith}
-use Rattle.graph_commands.specs.graph_lang.PlainLines.{ArePlainLines}
+use Rattle.graph_lang.specs.PlainLines.{ArePlainLines}
 use Rattle.phase_eval.specs.Texts.{IsReadPart}
 use Rattle.phase_eval.proofs.texts.joined.Goals as goal
 

@@ -1,5 +1,5 @@
 use Rattle.std.proofs.Common.{◌≤◌, length}
-use Rattle.graph_commands.specs.graph_lang.PlainLines.{ArePlainLines}
+use Rattle.graph_lang.specs.PlainLines.{ArePlainLines}
 use Rattle.phase_eval.proofs.texts.joined.Given as goal
 
 -- the samples so far are those of the lines up to this place

@@ -1,7 +1,7 @@
 use Rattle.std.proofs.Common.{inl, inr, sym, subst, ◌∙◌}
 use Rattle.phase_words.proofs.Answering.{may-end-answered, may-end-taken, refused-silent, unbegun}
 use Rattle.phase_words.specs.StreamLine.{Stream}
-use Rattle.graph_commands.specs.watched_io.States.{writer_state}
+use Rattle.watched_io.specs.States.{writer_state}
 use Rattle.graph_commands.specs.Folders.{known_by}
 use Rattle.phase_stream.specs.Ends.{EndsAsAsked, EndsAsTable}
 use Rattle.phase_stream.proofs.Alone.{ends_alone}

@@ -1,9 +1,9 @@
 -- A parent more, or none.
 use Rattle.std.proofs.Common.{◌≡◌, ◌≤◌, ◌∙◌, ℕ, None, Some, length, sym, ap, subst, arith}
-use Rattle.stream_job.specs.graph_base.Graphs.{Graph, Task, task_at}
-use Rattle.stream_job.specs.graph_base.TaskLines.{IsGraph}
+use Rattle.graph_base.specs.Graphs.{Graph, Task, task_at}
+use Rattle.graph_base.specs.TaskLines.{IsGraph}
 use Rattle.phase_stream.specs.Columns.{least_start}
-use Rattle.stream_job.proofs.stream_lists_lemmas.SpansAbove.{parent-is}
+use Rattle.stream_lists.proofs.SpansAbove.{parent-is}
 use Rattle.phase_stream.proofs.LeastStarts.{least_few, least_of_child, least_of_first, least_of_root}
 use Rattle.phase_stream.proofs.column.least_start.Goals as goal
 

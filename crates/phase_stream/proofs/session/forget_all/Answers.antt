@@ -1,6 +1,6 @@
 -- One sink more.
 use Rattle.std.proofs.Common.{◌≡◌, length, ap, subst, arith}
-use Rattle.stream_job.specs.stream_lists.Lists.{sinks_of}
+use Rattle.stream_lists.specs.Lists.{sinks_of}
 use Rattle.phase_stream.specs.Sessions.{Forgets}
 use Rattle.phase_stream.proofs.Forgetting.{forgets_more, forgets_none}
 use Rattle.phase_stream.proofs.session.forget_all.Goals as goal

@@ -1,6 +1,6 @@
 -- A source stands behind those before it.
 use Rattle.std.proofs.Common.{◌≡◌, ◌<◌, ℕ, length, sym, ap, ◌∙◌, arith}
-use Rattle.stream_job.specs.graph_base.Graphs.{is_source, task_at}
+use Rattle.graph_base.specs.Graphs.{is_source, task_at}
 use Rattle.phase_stream.proofs.Opening.{unopened_all, unopened_more, unopened_none, unopened_not}
 use Rattle.phase_stream.proofs.session.unopened.Goals as goal
 use Rattle.phase_stream.proofs.session.unopened.Goals.{then-is_source+in_ok-push, else-is_source}

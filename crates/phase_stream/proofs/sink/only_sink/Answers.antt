@@ -1,6 +1,6 @@
 -- The only sink of the tasks before is kept.
 use Rattle.std.proofs.Common.{◌<◌, ℕ, length, refl, sym, ap, ◌∙◌, arith}
-use Rattle.stream_job.specs.graph_base.Graphs.{is_sink, task_at}
+use Rattle.graph_base.specs.Graphs.{is_sink, task_at}
 use Rattle.phase_stream.proofs.Sinking.{only_first, only_none, only_same, only_some, only_two}
 use Rattle.phase_stream.proofs.sink.only_sink.Goals as goal
 use Rattle.phase_stream.proofs.sink.only_sink.Goals.{then-is_sink+else-is_some, else-is_sink}

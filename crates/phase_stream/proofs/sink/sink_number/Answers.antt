@@ -1,7 +1,7 @@
 -- The number of a sink is how many stand before it.
 use Rattle.std.proofs.Common.{◌≡◌, ◌+◌, ℕ, length, refl, sym, ap, subst, ◌∙◌, arith}
 use Rattle.std.proofs.lemmas.List.{length_push}
-use Rattle.stream_job.specs.graph_base.Graphs.{is_sink, task_at}
+use Rattle.graph_base.specs.Graphs.{is_sink, task_at}
 use Rattle.phase_stream.specs.Sessions.{IsSinkNumber}
 use Rattle.phase_stream.proofs.Sinking.{numbered, sinks_before, sinks_few, sinks_no, sinks_yes}
 use Rattle.phase_stream.proofs.sink.sink_number.Goals as goal

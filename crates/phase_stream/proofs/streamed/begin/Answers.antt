@@ -7,7 +7,7 @@ use Rattle.phase_words.specs.Outputs.{pair_as}
 use Rattle.phase_words.specs.StreamLine.{stream_asked}
 use Rattle.phase_stream.specs.Outputs.{bare_at, task_to, writers_at}
 use Rattle.phase_stream.specs.Sessions.{AreTargets, task_for}
-use Rattle.phase_stream.proofs.Ending.{begun_does, begun_stops, none_bare, there_of, unmade_unbegun, writers_bare}
+use Rattle.phase_stream.proofs.Ending.{begun_does, begun_stops, made_last, none_bare, there_of, unmade_unbegun, writers_bare}
 use Rattle.phase_stream.proofs.Results.{with_err, with_ok}
 use Rattle.phase_stream.proofs.streamed.begin.Goals as goal
 
@@ -17,6 +17,7 @@ returns-in_default-clause-failed g c = λ known is of_graph.
       inl (refl, needed-graph known _ _ of_graph),
       refl,
       none_bare g.F.Opens.knows g.F.Writer.Write.contents c.args.made.now.items c.requires.made,
+      inl c.requires.made,
     )
 
 pub returns-clause-failed : goal.returns-clause-failed
@@ -26,6 +27,9 @@ returns-clause-failed g c = λ known is of_graph.
           c.in-Err.ensures.fault,
       refl,
       c.make_files.ensures.bare,
+      made_last known (stream_asked c.args.call.now) c.args.stream.job c.in-Ok.session.stream.job
+          c.graph.result.now c.make_files.new.made.items c.in-Ok.ensures.job c.graph.ensures of_graph
+          c.requires.targets.sinks c.in-Err.ensures.unmade,
     )
 
 pub go-requires-clause-targets : goal.go-requires-clause-targets

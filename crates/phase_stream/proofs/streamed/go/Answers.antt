@@ -2,8 +2,8 @@
 use Rattle.std.proofs.Common.{Err, length, refl, ap, subst, sym, ◌∙◌}
 use Rattle.graph_commands.specs.Failures.{HasPlace}
 use Rattle.graph_commands.specs.declared.failure.Failure.TheVariants as failure
-use Rattle.stream_job.specs.graph_base.Graphs.{IsPlace}
-use Rattle.stream_job.specs.stream_lists.Jobs.{Job}
+use Rattle.graph_base.specs.Graphs.{IsPlace}
+use Rattle.stream_lists.specs.Jobs.{Job}
 use Rattle.phase_stream.specs.Outputs.{StopOf, writers_at}
 use Rattle.phase_stream.specs.Sessions.{StandsStopped, task_for}
 use Rattle.phase_stream.proofs.Refilling.{lacks_none}

@@ -11,4 +11,5 @@ returns-in-Err-clause-failed g c =
           c.in-Err.ensures.failed,
       refl,
       none_bare g.F.Opens.knows g.F.Writer.Write.contents c.args.made.now.items c.requires,
+      inl c.requires,
     )

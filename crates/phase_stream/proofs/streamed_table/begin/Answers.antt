@@ -1,9 +1,9 @@
 -- The names were written, and the run goes on; or a part of them was.
 use Rattle.std.proofs.Common.{◌∙◌, Err, inr, refl, sym, ap, subst}
 use Rattle.std.specs.Io.KnownBytes.{Appends}
-use Rattle.graph_commands.specs.watched_io.Prefix.{AppendsPrefix}
-use Rattle.graph_commands.specs.watched_io.States.{writer_state}
-use Rattle.graph_commands.specs.watched_io.Watched.{inner_of}
+use Rattle.watched_io.specs.Prefix.{AppendsPrefix}
+use Rattle.watched_io.specs.States.{writer_state}
+use Rattle.watched_io.specs.Watched.{inner_of}
 use Rattle.phase_stream.specs.TableLines.{AreNewColumns, names_line}
 use Rattle.phase_stream.specs.Tables.{unknown}
 use Rattle.phase_stream.proofs.FirstTables.{first_part, first_table, table_does, table_stops}

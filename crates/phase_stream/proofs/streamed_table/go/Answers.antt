@@ -2,9 +2,9 @@
 use Rattle.std.proofs.Common.{◌∙◌, Err, false, true, refl, sym, ap, subst}
 use Rattle.graph_commands.specs.Failures.{HasPlace}
 use Rattle.graph_commands.specs.declared.failure.Failure.TheVariants as failure
-use Rattle.graph_commands.specs.watched_io.States.{writer_state}
-use Rattle.stream_job.specs.graph_base.Graphs.{IsPlace}
-use Rattle.stream_job.specs.stream_lists.Jobs.{Job}
+use Rattle.watched_io.specs.States.{writer_state}
+use Rattle.graph_base.specs.Graphs.{IsPlace}
+use Rattle.stream_lists.specs.Jobs.{Job}
 use Rattle.phase_stream.specs.Sessions.{StandsStopped}
 use Rattle.phase_stream.specs.TableLines.{goes_on}
 use Rattle.phase_stream.specs.Tables.{StopsAtTable, unknown}
@@ -187,7 +187,7 @@ returns-in-TooBig-clause-failed g c = λ held old is st.
 
 pub returns-in-Err-refill-clause-same : goal.returns-in-Err-refill-clause-same
 returns-in-Err-refill-clause-same g c = λ other.
-    c.refill.ensures.files other ∙ c.loop.invariant.1 other
+    c.tell_awaited.ensures other ∙ c.refill.ensures.files other ∙ c.loop.invariant.1 other
 
 pub returns-in-TooBig-clause-place : goal.returns-in-TooBig-clause-place
 returns-in-TooBig-clause-place g c =

@@ -1,6 +1,6 @@
 use Rattle.std.proofs.Common.{◌≡◌, ℕ, List, Option, true}
 use Rattle.graph_commands.specs.FileJobs.{Known}
-use Rattle.graph_commands.specs.watched_io.Watched.{inner_of}
+use Rattle.watched_io.specs.Watched.{inner_of}
 use Rattle.phase_stream.specs.Sessions.{IsKnownAs, IsSameSession}
 use Rattle.phase_stream.specs.TableLines.{TableStands}
 use Rattle.phase_stream.proofs.streamed_table.go.Given as goal

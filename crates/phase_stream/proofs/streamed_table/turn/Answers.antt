@@ -1,10 +1,10 @@
 -- What the sinks have is taken over, and its lines are written.
 use Rattle.std.proofs.Common.{◌∙◌, true, refl, sym, ap}
 use Rattle.stream_job.specs.Streams.{ended_at}
-use Rattle.stream_job.specs.stream_lists.Lists.{sinks_of}
+use Rattle.stream_lists.specs.Lists.{sinks_of}
 use Rattle.phase_stream.specs.TableLines.{by_number, goes_on}
 use Rattle.phase_stream.proofs.TableStops.{part_first}
-use Rattle.phase_stream.proofs.TurnedTables.{after_end, after_run, after_take, after_write, part_now, part_of}
+use Rattle.phase_stream.proofs.TurnedTables.{after_end, after_run, after_take, after_write, part_now, part_of, same_stop}
 use Rattle.phase_stream.proofs.streamed_table.turn.Goals as goal
 
 pub take-requires : goal.take-requires
@@ -30,10 +30,12 @@ returns-in-Ok-write-clause-ok g c = λ held old st.
     let ended = after_end g.R.Read.remaining held old _ after c.take.new.self c.end.new.table stop took
     c.end.ensures in
     let by = ended.table_stands.stands in
-    after_write g.R.Read.remaining held old _ _ after c.end.new.table c.write.new.self stop ended
+    same_stop g.R.Read.remaining held old _ after c.write.new.self stop c.with_wanted.result
+    (after_write g.R.Read.remaining held old _ _ after c.end.new.table c.write.new.self stop ended
     (c.in-Ok-write.ensures.ok after.stream.job (ended_at after.stream) (goes_on stop) by.samples
     by.moment (by_number after.stream.job by.given) ended.table_stands.view ended.table_stands.shows)
     c.in-Ok-write.ensures.line c.in-Ok-write.ensures.left)
+    c.with_wanted.ensures)
 
 pub returns-in-Err-clause-err : goal.returns-in-Err-clause-err
 returns-in-Err-clause-err g c = λ held old st.

@@ -1,6 +1,6 @@
 -- C is told what the member answered.
 use Rattle.std.proofs.Common.{◌≡◌, ap, inr, ◌∙◌, w32, to_z, of_z}
-use Rattle.phase_shared.specs.phase_accum.Values.{value_by}
+use Rattle.phase_accum.specs.Values.{value_by}
 use Rattle.shared_handle.specs.AnyMembers.{op_in, state_in, held_in}
 use Rattle.shared_handle.specs.NumberBlocks.{NumbersCall}
 use Rattle.handle_numbers.specs.Numbers.{wait_block_status}

@@ -1,8 +1,8 @@
 -- C is told what the member answered.
 use Rattle.std.proofs.Common.{◌≡◌, Option, refl, sym, ap, subst, ◌∙◌, w32, to_z, of_z}
 use Rattle.std.proofs.lemmas.Int.{to_z-of_z}
-use Rattle.phase_shared.specs.phase_accum.Values.{value_by}
-use Rattle.phase_shared.specs.phase_accum.declared.single.Single.{Single}
+use Rattle.phase_accum.specs.Values.{value_by}
+use Rattle.phase_accum.specs.declared.single.Single.{Single}
 use Rattle.shared_handle.specs.AnyMembers.{op_in, state_in, held_in}
 use Rattle.shared_handle.specs.Calls.{SignalCall}
 use Rattle.shared_handle.specs.Told.{TellsSignal, tried_status}

@@ -1,6 +1,6 @@
 -- C is told what the member answered.
 use Rattle.std.proofs.Common.{◌≡◌, inr, sym, ap, subst, ◌∙◌, w32, to_z, of_z}
-use Rattle.phase_shared.specs.phase_base.declared.mode.Mode.{Mode}
+use Rattle.phase_base.specs.declared.mode.Mode.{Mode}
 use Rattle.shared_handle.specs.AnyMembers.{held_in, StillHas}
 use Rattle.shared_handle.specs.Calls.{AddCall}
 use Rattle.shared_handle.specs.Told.{TellsRegister, tried_status, register_status}

@@ -1,7 +1,7 @@
 use Rattle.std.proofs.Common.{◌≤◌, ◌<◌, ◌-◌, ◌+◌, ◌⊎◌, inl, inr, length, drop, ap, subst, sym, ◌∙◌, arith}
 use Rattle.std.proofs.lemmas.Bool.{cases_lt}
-use Rattle.stream_lists.specs.stream_filters.Filter.{outputs, reach}
-use Rattle.stream_lists.proofs.stream_filters_lemmas.Outputs.{outputs-length}
+use Rattle.stream_filters.specs.Filter.{outputs, reach}
+use Rattle.stream_filters.proofs.Outputs.{outputs-length}
 use Rattle.stream_eval.specs.Parts.{ArePart}
 use Rattle.stream_eval.proofs.Parts.{IfSome-weaker, filter-part, length-with_lead, with_lead}
 use Rattle.stream_eval.proofs.filter_lists.filter_part.Goals as goal

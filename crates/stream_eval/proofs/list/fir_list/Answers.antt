@@ -1,5 +1,5 @@
 use Rattle.std.proofs.Common.{subst, sym}
-use Rattle.stream_lists.specs.phase_accum.Sends.{AreSends}
+use Rattle.phase_accum.specs.Sends.{AreSends}
 use Rattle.stream_lists.proofs.Fitting.{all_sends}
 use Rattle.stream_eval.proofs.list.fir_list.Goals as goal
 

@@ -1,8 +1,8 @@
 use Rattle.std.proofs.Common.{arith, rules, ◌≡◌, ◌<◌, ◌++◌, ◌∷◌, [], length, None, Err, ap, sym, ◌∙◌}
 use Rattle.std.proofs.lemmas.List.{map_push, length_push}
 use Rattle.std.proofs.lemmas.List.Elements.{All-push}
-use Rattle.stream_lists.specs.phase_accum.Sends.{AreSends}
-use Rattle.stream_lists.specs.graph_base.Graphs.{Graph}
+use Rattle.phase_accum.specs.Sends.{AreSends}
+use Rattle.graph_base.specs.Graphs.{Graph}
 use Rattle.stream_lists.specs.Lists.{contribution_at}
 use Rattle.stream_lists.specs.JobFields.{items_of}
 use Rattle.stream_eval.specs.Composing.{member_of, member_option}

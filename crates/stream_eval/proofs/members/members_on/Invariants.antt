@@ -1,6 +1,6 @@
 use Rattle.std.proofs.Common.{◌≡◌, ◌-◌, ◌≤◌, length, map}
 use Rattle.std.specs.List.{range_with_len, All, filter_map}
-use Rattle.stream_lists.specs.phase_accum.Sends.{AreSends}
+use Rattle.phase_accum.specs.Sends.{AreSends}
 use Rattle.stream_lists.specs.Lists.{contribution_at}
 use Rattle.stream_lists.specs.Ranges.{first_some, output_fault_of}
 use Rattle.stream_lists.specs.JobFields.{items_of}

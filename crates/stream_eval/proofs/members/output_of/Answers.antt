@@ -1,7 +1,7 @@
 use Rattle.std.proofs.Common.{◌≡◌, ◌<◌, length, ap, sym, subst, ◌∙◌}
-use Rattle.stream_lists.specs.graph_base.Graphs.{Task, task_at}
-use Rattle.stream_lists.specs.graph_base.TaskLines.{HasEnds}
-use Rattle.stream_lists.specs.graph_base.declared.line.Kind.TheVariants.{Split}
+use Rattle.graph_base.specs.Graphs.{Task, task_at}
+use Rattle.graph_base.specs.TaskLines.{HasEnds}
+use Rattle.graph_base.specs.declared.line.Kind.TheVariants.{Split}
 use Rattle.stream_eval.proofs.members.output_of.Goals as goal
 
 -- there is a list for each input

@@ -1,12 +1,12 @@
 use Rattle.std.proofs.Common.{rules, arith, ◌≡◌, ◌<◌, ◌++◌, ◌∷◌, [], length, Some, sym, ap, ◌∙◌, w64, FitsSigned}
 use Rattle.std.specs.Prelude.{◌&&◌}
 use Rattle.std.proofs.lemmas.Int.{to_z-of_z}
-use Rattle.stream_lists.specs.phase_accum.Values.{applied}
-use Rattle.stream_lists.proofs.phase_accum_lemmas.Parts.{AreSends-append}
-use Rattle.stream_lists.specs.graph_base.Graphs.{phaser_at}
+use Rattle.phase_accum.specs.Values.{applied}
+use Rattle.phase_accum.proofs.Parts.{AreSends-append}
+use Rattle.graph_base.specs.Graphs.{phaser_at}
 use Rattle.stream_lists.specs.Lists.{number, number_in}
 use Rattle.stream_lists.specs.Ranges.{is_fault, is_too_big, is_taken}
-use Rattle.stream_lists.specs.graph_base.declared.place.Place.TheVariants as place
+use Rattle.graph_base.specs.declared.place.Place.TheVariants as place
 use Rattle.stream_lists.proofs.Firsts.{find-pass, find-here}
 use Rattle.stream_lists.specs.Spans.{schedule_of}
 use Rattle.stream_eval.proofs.Sends.{value_of_part}

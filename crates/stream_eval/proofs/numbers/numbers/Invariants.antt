@@ -1,6 +1,6 @@
 use Rattle.std.proofs.Common.{◌≡◌, ◌-◌, List, length, map}
 use Rattle.std.specs.List.{range_with_len, find}
-use Rattle.stream_lists.specs.phase_accum.Sends.{AreSends}
+use Rattle.phase_accum.specs.Sends.{AreSends}
 use Rattle.stream_lists.specs.Lists.{Contribution, number_in}
 use Rattle.stream_lists.specs.Ranges.{is_fault, first_fault}
 use Rattle.stream_lists.specs.Spans.{schedule_of}

@@ -1,4 +1,4 @@
-use Rattle.stream_lists.proofs.phase_accum_lemmas.Parts.{AreSends-take, AreSends-drop}
+use Rattle.phase_accum.proofs.Parts.{AreSends-take, AreSends-drop}
 use Rattle.stream_eval.proofs.outputs.copy_of.Goals as goal
 
 -- they are values of the list

@@ -1,8 +1,8 @@
 use Rattle.std.proofs.Common.{rules, arith, refl, ◌≡◌, ◌<◌, ◌+◌, length, w64, FitsSigned, subst, ap, sym, ◌∙◌}
 use Rattle.std.proofs.lemmas.List.{length-set}
 use Rattle.std.proofs.lemmas.Int.{to_z-of_z}
-use Rattle.stream_lists.specs.phase_accum.Sends.{IsSend}
-use Rattle.stream_lists.specs.phase_accum.Operations.{MayJoin}
+use Rattle.phase_accum.specs.Sends.{IsSend}
+use Rattle.phase_accum.specs.Operations.{MayJoin}
 use Rattle.stream_eval.proofs.Made.{AreSends-at}
 use Rattle.stream_eval.proofs.Sends.{HasParts-start, MayJoin-value, HasParts-next, HasParts-whole}
 use Rattle.stream_eval.proofs.phases.add_member.Goals as goal

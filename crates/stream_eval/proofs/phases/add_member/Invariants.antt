@@ -1,5 +1,5 @@
 use Rattle.std.proofs.Common.{◌≡◌, ◌<◌, ◌∷◌, [], ◌++◌, List, length}
-use Rattle.stream_lists.specs.phase_base.declared.limits.TheConstants.{SENDS_MAX}
+use Rattle.phase_base.specs.declared.limits.TheConstants.{SENDS_MAX}
 use Rattle.stream_lists.specs.Lists.{Contribution}
 use Rattle.stream_eval.specs.Composing.{HasParts}
 use Rattle.stream_eval.proofs.Sends.{front}

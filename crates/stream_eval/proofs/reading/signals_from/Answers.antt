@@ -1,5 +1,5 @@
 use Rattle.std.proofs.Common.{arith, ◌<◌, length, ap, ◌∙◌, sym}
-use Rattle.stream_lists.specs.graph_base.Graphs.{Graph}
+use Rattle.graph_base.specs.Graphs.{Graph}
 use Rattle.stream_eval.specs.Composing.{signals_on}
 use Rattle.stream_lists.proofs.Firsts.{any-pass, any-here}
 use Rattle.stream_eval.proofs.reading.signals_from.Goals as goal

@@ -1,5 +1,5 @@
 use Rattle.std.proofs.Common.{arith, ◌<◌, length, ap, ◌∙◌, sym}
-use Rattle.stream_lists.specs.graph_base.Graphs.{Graph}
+use Rattle.graph_base.specs.Graphs.{Graph}
 use Rattle.stream_lists.specs.Ranges.{task_takes}
 use Rattle.stream_lists.proofs.Firsts.{any-pass}
 use Rattle.stream_lists.specs.Spans.{schedule_of}

@@ -3,8 +3,8 @@ use Rattle.std.specs.List.{range_with_len}
 use Rattle.std.proofs.lemmas.List.{map_push, length_push}
 use Rattle.std.proofs.lemmas.List.Elements.{All-push}
 use Rattle.std.proofs.lemmas.List.FromFn.{map-range_with_len_more}
-use Rattle.stream_lists.specs.phase_accum.Sends.{AreSends}
-use Rattle.stream_lists.specs.graph_base.GraphFields.{task_of}
+use Rattle.phase_accum.specs.Sends.{AreSends}
+use Rattle.graph_base.specs.GraphFields.{task_of}
 use Rattle.stream_lists.specs.JobFields.{items_of}
 use Rattle.stream_lists.specs.Lists.{taken_from}
 use Rattle.stream_eval.proofs.taken_values.taken_lists.Goals as goal

@@ -1,7 +1,7 @@
 use Rattle.std.proofs.Common.{◌≡◌, length, map}
 use Rattle.std.specs.List.{All, range_with_len}
-use Rattle.stream_lists.specs.phase_accum.Sends.{AreSends}
-use Rattle.stream_lists.specs.graph_base.GraphFields.{task_of}
+use Rattle.phase_accum.specs.Sends.{AreSends}
+use Rattle.graph_base.specs.GraphFields.{task_of}
 use Rattle.stream_lists.specs.JobFields.{items_of}
 use Rattle.stream_lists.specs.Lists.{taken_from}
 use Rattle.stream_eval.proofs.taken_values.taken_lists.Given as goal

@@ -2,7 +2,7 @@ use Rattle.std.proofs.Common.{◌≡◌, ◌++◌, ◌∷◌, [], map, ap, sym, 
 use Rattle.std.proofs.lemmas.List.{map_push}
 use Rattle.std.proofs.lemmas.List.Elements.{All-push}
 use Rattle.std.specs.List.{range_with_len, filter}
-use Rattle.stream_lists.specs.graph_base.Graphs.{is_sink, task_at}
+use Rattle.graph_base.specs.Graphs.{is_sink, task_at}
 use Rattle.stream_lists.specs.Lists.{sink_over, is_sink_at, start_in}
 use Rattle.stream_eval.specs.Results.{sink_values}
 use Rattle.stream_lists.specs.JobFields.{items_of}

@@ -1,6 +1,6 @@
 use Rattle.std.proofs.Common.{arith, ◌≡◌, ◌<◌, ◌+◌, ◌++◌, ◌∷◌, [], length, Err, ap, sym, ◌∙◌, get_or}
 use Rattle.std.proofs.lemmas.List.{length_push, length-map, map_push}
-use Rattle.stream_lists.specs.graph_base.Graphs.{Graph}
+use Rattle.graph_base.specs.Graphs.{Graph}
 use Rattle.stream_lists.specs.JobFields.{items_of}
 use Rattle.stream_lists.specs.Lists.{numbers_up_to}
 use Rattle.stream_lists.specs.Ranges.{fault_on}

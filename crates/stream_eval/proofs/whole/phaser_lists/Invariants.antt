@@ -1,6 +1,6 @@
 use Rattle.std.proofs.Common.{◌≡◌, ◌-◌, ℕ, [], length, map, get_or}
 use Rattle.std.specs.List.{range_with_len, All}
-use Rattle.stream_lists.specs.phase_accum.Sends.{AreSends}
+use Rattle.phase_accum.specs.Sends.{AreSends}
 use Rattle.stream_lists.specs.Lists.{numbers_up_to}
 use Rattle.stream_lists.specs.Ranges.{first_some, fault_on}
 use Rattle.stream_lists.specs.JobFields.{items_of}

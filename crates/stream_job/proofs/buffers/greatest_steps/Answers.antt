@@ -1,7 +1,7 @@
 -- A task's steps are the most so far, or less than them.
 use Rattle.std.proofs.Common.{◌≡◌, ℕ, ◌+◌, ◌<◌, ◌≤◌, ap, ◌∙◌, ◌⊎◌, inl, inr, arith}
 use Rattle.std.proofs.lemmas.Bool.{cases_lt}
-use Rattle.graph_lang.specs.graph_base.Graphs.{task_at}
+use Rattle.graph_base.specs.Graphs.{task_at}
 use Rattle.stream_job.specs.Buffers.{most_steps}
 use Rattle.stream_job.specs.declared.buffers.TheConstants.{OWN_STEPS}
 use Rattle.stream_job.proofs.buffers.greatest_steps.Goals as goal

@@ -1,12 +1,12 @@
 -- What the filter makes of a part of the outcomes stands behind what it made of those before.
 use Rattle.std.proofs.Common.{rules, ◌≡◌, ◌-◌, ◌≤◌, ◌++◌, ◌∷◌, [], map, get_or, take, drop, pos, SFits, w64, to_z, of_z, to_z-of_z, sym, ap, subst, ◌∙◌, arith}
 use Rattle.std.proofs.lemmas.List.{length-drop, length-take}
-use Rattle.phase_any.specs.phase_accum.declared.outcome.Outcome.TheVariants.{Value}
-use Rattle.graph_lang.specs.graph_base.Graphs.{task_at}
-use Rattle.graph_lang.specs.stream_filters.Filter.{output_after}
-use Rattle.graph_lang.specs.stream_filters.Range.{ranged}
+use Rattle.phase_accum.specs.declared.outcome.Outcome.TheVariants.{Value}
+use Rattle.graph_base.specs.Graphs.{task_at}
+use Rattle.stream_filters.specs.Filter.{output_after}
+use Rattle.stream_filters.specs.Range.{ranged}
 use Rattle.graph_runs.specs.Steps.{HasFilter}
-use Rattle.stream_eval.specs.stream_lists.Lists.{number}
+use Rattle.stream_lists.specs.Lists.{number}
 use Rattle.stream_job.specs.Filtering.{HasFiltered}
 use Rattle.stream_job.proofs.Filtered.{filtered_one, filtered_then, numbers_then, one_of, take-few}
 use Rattle.stream_job.proofs.filtering.filter_all.Goals as goal

@@ -1,8 +1,8 @@
 -- The filter was given the numbers of the outcomes, and what it has made stands behind the rest.
 use Rattle.std.proofs.Common.{◌≡◌, inl, inr, ◌+◌, ◌<◌, ◌≤◌, ◌++◌, ◌∷◌, [], length, map, refl, sym, ap, subst, ◌∙◌, arith}
 use Rattle.std.proofs.lemmas.List.{length-append, length-map, take-map}
-use Rattle.graph_lang.specs.graph_base.Graphs.{task_at}
-use Rattle.stream_eval.specs.stream_lists.Lists.{number}
+use Rattle.graph_base.specs.Graphs.{task_at}
+use Rattle.stream_lists.specs.Lists.{number}
 use Rattle.stream_job.specs.Filtering.{HasFiltered}
 use Rattle.stream_job.proofs.Filtered.{WasGiven, was_given, few_given, filtered_so, good, less, out}
 use Rattle.stream_job.proofs.filtering.filter_some.Goals as goal

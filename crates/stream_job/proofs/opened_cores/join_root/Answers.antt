@@ -1,10 +1,10 @@
 -- The next number is the founder's next, whom nobody refuses.
 use Rattle.std.proofs.Common.{◌≡◌, ℕ, ◌+◌, ◌∷◌, Some, sym, ap, subst, ◌∙◌}
 use Rattle.std.proofs.lemmas.Option.{same_Some}
-use Rattle.phase_any.specs.phase_history.declared.event.Event.TheVariants.{Registered}
-use Rattle.phase_any.specs.phase_history.Histories.{History, greatest_used}
-use Rattle.phase_any.specs.phase_history.Refusals.{register_refusal}
-use Rattle.graph_lang.specs.graph_base.Graphs.{phaser_at}
+use Rattle.phase_history.specs.declared.event.Event.TheVariants.{Registered}
+use Rattle.phase_history.specs.Histories.{History, greatest_used}
+use Rattle.phase_history.specs.Refusals.{register_refusal}
+use Rattle.graph_base.specs.Graphs.{phaser_at}
 use Rattle.graph_runs.specs.Moments.{limits_at}
 use Rattle.phase_any.specs.Phasers.{PhaserStandsFor}
 use Rattle.graph_runs.specs.Beginnings.{roots_joined, root_mode, with_root}

@@ -1,8 +1,8 @@
 -- The founder is registered until it leaves, last of all.
 use Rattle.std.proofs.Common.{◌≡◌, ℕ, length, sym, ap, subst, ◌∙◌, arith}
-use Rattle.graph_lang.specs.graph_base.Graphs.{Graph, phaser_at}
-use Rattle.graph_lang.specs.graph_base.TaskLines.{IsGraph}
-use Rattle.stream_eval.specs.stream_lists.Jobs.{Job}
+use Rattle.graph_base.specs.Graphs.{Graph, phaser_at}
+use Rattle.graph_base.specs.TaskLines.{IsGraph}
+use Rattle.stream_lists.specs.Jobs.{Job}
 use Rattle.graph_runs.specs.Moments.{limits_at}
 use Rattle.phase_any.specs.declared.any_phaser.AnyPhaser.{AnyPhaser}
 use Rattle.phase_any.specs.Phasers.{PhaserStandsFor}

@@ -1,4 +1,4 @@
-use Rattle.graph_lang.specs.graph_base.Graphs.{phaser_at}
+use Rattle.graph_base.specs.Graphs.{phaser_at}
 use Rattle.graph_runs.specs.Moments.{limits_at}
 use Rattle.phase_any.specs.Phasers.{PhaserStandsFor}
 use Rattle.graph_runs.specs.Beginnings.{roots_joined}

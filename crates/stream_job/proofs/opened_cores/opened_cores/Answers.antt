@@ -2,9 +2,9 @@
 use Rattle.std.proofs.Common.{◌≡◌, ℕ, [], ◌∷◌, ◌++◌, length, sym, ap, subst, ◌∙◌, arith}
 use Rattle.std.specs.Prelude.{slice_get}
 use Rattle.std.proofs.lemmas.List.{length-append}
-use Rattle.graph_lang.specs.graph_base.Graphs.{phaser_at}
-use Rattle.stream_eval.specs.stream_lists.Jobs.{Job}
-use Rattle.stream_eval.proofs.stream_lists_lemmas.Basics.{each-push}
+use Rattle.graph_base.specs.Graphs.{phaser_at}
+use Rattle.stream_lists.specs.Jobs.{Job}
+use Rattle.stream_lists.proofs.Basics.{each-push}
 use Rattle.graph_runs.specs.Moments.{limits_at}
 use Rattle.phase_any.specs.declared.any_phaser.AnyPhaser.{AnyPhaser}
 use Rattle.phase_any.specs.Phasers.{PhaserStandsFor}

@@ -1,8 +1,8 @@
 -- The fields stand at the opening.
 use Rattle.std.proofs.Common.{refl, sym, ap, subst, ◌∙◌, arith}
 use Rattle.std.specs.Prelude.{slice_get}
-use Rattle.graph_lang.specs.graph_base.Graphs.{is_sink}
-use Rattle.stream_eval.specs.stream_lists.Lists.{sinks_of}
+use Rattle.graph_base.specs.Graphs.{is_sink}
+use Rattle.stream_lists.specs.Lists.{sinks_of}
 use Rattle.graph_runs.specs.Beginnings.{opening}
 use Rattle.graph_runs.specs.TaskPlaces.{StandsUpTo, at_start}
 use Rattle.graph_runs.specs.declared.owed.Owed.TheVariants.{Nothing}

@@ -3,10 +3,10 @@ use Rattle.std.proofs.Common.{◌≡◌, ℕ, ◌+◌, ◌≤◌, [], ◌∷◌,
 use Rattle.std.specs.Prelude.{slice_get}
 use Rattle.std.specs.List.{filter, range_with_len}
 use Rattle.std.proofs.lemmas.List.{length-append}
-use Rattle.stream_eval.specs.stream_lists.Lists.{is_sink_at}
-use Rattle.stream_eval.proofs.stream_lists_lemmas.Firsts.{filter-skip, filter-take}
-use Rattle.stream_eval.proofs.stream_lists_lemmas.Basics.{each-push}
-use Rattle.graph_lang.specs.graph_base.Graphs.{is_sink, task_at}
+use Rattle.stream_lists.specs.Lists.{is_sink_at}
+use Rattle.stream_lists.proofs.Firsts.{filter-skip, filter-take}
+use Rattle.stream_lists.proofs.Basics.{each-push}
+use Rattle.graph_base.specs.Graphs.{is_sink, task_at}
 use Rattle.stream_job.specs.Places.{IsOpened}
 use Rattle.stream_job.proofs.opened_tasks.opened_tasks.Goals as goal
 use Rattle.stream_job.proofs.opened_tasks.opened_tasks.Goals.{then-is_sink, else-is_sink}

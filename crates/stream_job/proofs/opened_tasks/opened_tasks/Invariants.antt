@@ -1,7 +1,7 @@
 use Rattle.std.proofs.Common.{◌≡◌, ℕ, ◌≤◌, Some, length}
 use Rattle.std.specs.Prelude.{slice_get}
 use Rattle.std.specs.List.{filter, range_with_len}
-use Rattle.stream_eval.specs.stream_lists.Lists.{is_sink_at}
+use Rattle.stream_lists.specs.Lists.{is_sink_at}
 use Rattle.stream_job.specs.declared.task_state.TaskState.{TaskState}
 use Rattle.stream_job.specs.Places.{IsOpened}
 use Rattle.stream_job.proofs.opened_tasks.opened_tasks.Given as goal

@@ -1,6 +1,6 @@
 use Rattle.std.proofs.Common.{◌≡◌, ℕ, ◌<◌, None, length}
 use Rattle.std.specs.Prelude.{slice_get}
-use Rattle.graph_lang.specs.graph_base.Graphs.{task_at}
+use Rattle.graph_base.specs.Graphs.{task_at}
 use Rattle.graph_runs.specs.Beginnings.{root_number}
 use Rattle.graph_runs.specs.TaskPlaces.{registration_at}
 use Rattle.stream_job.proofs.opened_tasks.root_numbers.Given as goal

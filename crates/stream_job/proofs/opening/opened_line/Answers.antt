@@ -1,8 +1,8 @@
 -- The span that a job keeps is the one with the least starts.
 use Rattle.std.proofs.Common.{◌≡◌, sym, ap, arith}
-use Rattle.stream_eval.specs.stream_lists.declared.span.Span.{Span}
-use Rattle.stream_eval.specs.stream_lists.Jobs.{Job, with_starts, least}
-use Rattle.stream_eval.specs.stream_lists.Spans.{span_in}
+use Rattle.stream_lists.specs.declared.span.Span.{Span}
+use Rattle.stream_lists.specs.Jobs.{Job, with_starts, least}
+use Rattle.stream_lists.specs.Spans.{span_in}
 use Rattle.stream_job.proofs.opening.opened_line.Goals as goal
 
 pub returns-clause-own : goal.returns-clause-own

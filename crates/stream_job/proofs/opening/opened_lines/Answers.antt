@@ -1,8 +1,8 @@
 -- A sink with no values stands behind those before it.
 use Rattle.std.proofs.Common.{ℕ, sym, ap, ◌∙◌}
-use Rattle.graph_lang.specs.graph_base.Graphs.{is_sink, task_at}
-use Rattle.stream_eval.specs.stream_lists.Jobs.{least}
-use Rattle.stream_eval.specs.stream_lists.Spans.{span_in}
+use Rattle.graph_base.specs.Graphs.{is_sink, task_at}
+use Rattle.stream_lists.specs.Jobs.{least}
+use Rattle.stream_lists.specs.Spans.{span_in}
 use Rattle.stream_job.proofs.StreamLines.{line_more, line_not}
 use Rattle.stream_job.proofs.opening.opened_lines.Goals as goal
 use Rattle.stream_job.proofs.opening.opened_lines.Goals.{then-is_sink+in_ok-opened_line+in_ok-push, else-is_sink}

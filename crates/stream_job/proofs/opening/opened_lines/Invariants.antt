@@ -1,5 +1,5 @@
-use Rattle.stream_eval.specs.stream_lists.Jobs.{least}
-use Rattle.stream_eval.specs.stream_lists.Spans.{span_in}
+use Rattle.stream_lists.specs.Jobs.{least}
+use Rattle.stream_lists.specs.Spans.{span_in}
 use Rattle.stream_job.proofs.StreamLines.{AreLinesBefore}
 use Rattle.stream_job.proofs.opening.opened_lines.Given as goal
 

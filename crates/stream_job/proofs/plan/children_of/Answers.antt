@@ -1,7 +1,7 @@
 -- A child stands behind those before it.
 use Rattle.std.proofs.Common.{ℕ, Bool, ◌∷◌, [], ◌++◌, sym, ap, ◌∙◌}
-use Rattle.stream_eval.proofs.stream_lists_lemmas.Firsts.{filter-skip, filter-take}
-use Rattle.graph_lang.specs.graph_base.Graphs.{task_at}
+use Rattle.stream_lists.proofs.Firsts.{filter-skip, filter-take}
+use Rattle.graph_base.specs.Graphs.{task_at}
 use Rattle.stream_job.specs.Plans.{is_child_of}
 use Rattle.stream_job.proofs.plan.children_of.Goals as goal
 use Rattle.stream_job.proofs.plan.children_of.Goals.{then-is_child_of+in_ok-push, else-is_child_of}

@@ -1,8 +1,8 @@
 -- Nor does this task.
 use Rattle.std.proofs.Common.{◌≡◌, ◌≤◌, Some, ◌∙◌, arith}
-use Rattle.stream_eval.proofs.stream_lists_lemmas.Basics.{one_more}
-use Rattle.graph_lang.specs.graph_base.declared.line.Parent.{Parent}
-use Rattle.graph_lang.specs.graph_base.Graphs.{task_at}
+use Rattle.stream_lists.proofs.Basics.{one_more}
+use Rattle.graph_base.specs.declared.line.Parent.{Parent}
+use Rattle.graph_base.specs.Graphs.{task_at}
 use Rattle.stream_job.proofs.plan.next_child.Goals as goal
 
 pub loop-c-preserved : goal.loop-c-preserved

@@ -1,5 +1,5 @@
 use Rattle.std.proofs.Common.{◌≡◌, ◌≤◌, ◌+◌}
-use Rattle.phase_any.specs.phase_history.Histories.{greatest_used}
+use Rattle.phase_history.specs.Histories.{greatest_used}
 use Rattle.graph_runs.specs.Beginnings.{roots_joined}
 use Rattle.stream_job.proofs.roots.root_number.Given as goal
 

@@ -1,6 +1,6 @@
 -- A sink with no values stands behind those before it.
 use Rattle.std.proofs.Common.{ℕ, sym, ap, ◌∙◌}
-use Rattle.graph_lang.specs.graph_base.Graphs.{is_sink, task_at}
+use Rattle.graph_base.specs.Graphs.{is_sink, task_at}
 use Rattle.stream_job.specs.Streams.{line_room}
 use Rattle.stream_job.proofs.StreamLines.{line_more, line_not}
 use Rattle.stream_job.proofs.sink_lines.bounded_lines.Goals as goal

@@ -2,13 +2,13 @@
 use Rattle.std.proofs.Common.{◌≡◌, ◌<◌, ℕ, [], Option, Some, None, length, get_or, refl, sym, ap, subst, ◌∙◌, arith}
 use Rattle.std.specs.List.{range_with_len}
 use Rattle.std.proofs.lemmas.List.{get_or-replicate}
-use Rattle.phase_any.specs.phase_accum.Sends.{AreSends}
-use Rattle.graph_lang.specs.graph_base.Graphs.{Graph, source_number, sources_of, task_at}
-use Rattle.graph_lang.specs.graph_base.declared.line.Kind.TheVariants.{Source}
-use Rattle.stream_eval.specs.stream_lists.JobFields.{given}
-use Rattle.stream_eval.specs.stream_lists.Jobs.{Job, count_at, counted, with_samples}
-use Rattle.stream_eval.specs.stream_lists.Meetings.{meeting_line}
-use Rattle.stream_eval.specs.stream_lists.declared.sample_counts.TheConstants.{COUNT_MAX}
+use Rattle.phase_accum.specs.Sends.{AreSends}
+use Rattle.graph_base.specs.Graphs.{Graph, source_number, sources_of, task_at}
+use Rattle.graph_base.specs.declared.line.Kind.TheVariants.{Source}
+use Rattle.stream_lists.specs.JobFields.{given}
+use Rattle.stream_lists.specs.Jobs.{Job, count_at, counted, with_samples}
+use Rattle.stream_lists.specs.Meetings.{meeting_line}
+use Rattle.stream_lists.specs.declared.sample_counts.TheConstants.{COUNT_MAX}
 use Rattle.stream_job.specs.Streams.{IsApart, most_of}
 use Rattle.stream_job.proofs.BareLists.{all_bare, bare_item, bare_items}
 use Rattle.stream_job.proofs.Feeding.{source-within}

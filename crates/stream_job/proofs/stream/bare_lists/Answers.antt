@@ -5,7 +5,7 @@ use Rattle.std.specs.Global.{Global}
 use Rattle.std.specs.declared.vec.Vec.{Vec}
 use Rattle.std.proofs.lemmas.List.{map_push}
 use Rattle.std.proofs.lemmas.List.FromFn.{map-range_with_len_more}
-use Rattle.stream_eval.specs.stream_lists.JobFields.{items_of}
+use Rattle.stream_lists.specs.JobFields.{items_of}
 use Rattle.stream_job.proofs.stream.bare_lists.Goals as goal
 
 abbrev bare : ℕ → List ℤ

@@ -1,6 +1,6 @@
 use Rattle.std.proofs.Common.{◌≡◌, [], map}
 use Rattle.std.specs.List.{range_with_len}
-use Rattle.stream_eval.specs.stream_lists.JobFields.{items_of}
+use Rattle.stream_lists.specs.JobFields.{items_of}
 use Rattle.stream_job.proofs.stream.bare_lists.Given as goal
 
 -- so many lists

@@ -1,9 +1,9 @@
 -- With as many samples of each source as there may be.
 use Rattle.std.proofs.Common.{◌≡◌, ap, ◌∙◌, subst}
 use Rattle.std.specs.Prelude.{IfOk, replicate}
-use Rattle.stream_eval.specs.stream_lists.Jobs.{counted}
-use Rattle.stream_eval.specs.stream_lists.Meetings.{meeting_line}
-use Rattle.stream_eval.specs.stream_lists.declared.sample_counts.TheConstants.{COUNT_MAX}
+use Rattle.stream_lists.specs.Jobs.{counted}
+use Rattle.stream_lists.specs.Meetings.{meeting_line}
+use Rattle.stream_lists.specs.declared.sample_counts.TheConstants.{COUNT_MAX}
 use Rattle.stream_job.proofs.stream.meeting_of.Goals as goal
 
 pub returns : goal.returns

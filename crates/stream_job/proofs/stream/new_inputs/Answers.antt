@@ -1,6 +1,6 @@
 -- The input of a source stands behind those before it.
 use Rattle.std.proofs.Common.{◌<◌, ℕ, length, sym, ap, ◌∙◌, arith}
-use Rattle.graph_lang.specs.graph_base.Graphs.{is_source, task_at}
+use Rattle.graph_base.specs.Graphs.{is_source, task_at}
 use Rattle.stream_job.proofs.OpenedInputs.{inputs_all, inputs_more, inputs_none, inputs_not}
 use Rattle.stream_job.proofs.stream.new_inputs.Goals as goal
 use Rattle.stream_job.proofs.stream.new_inputs.Goals.{then-is_source+in_ok-new+in_ok-push, else-is_source}

@@ -1,7 +1,7 @@
 -- Its samples go on, and it is registered or the run is over.
 use Rattle.std.proofs.Common.{◌≡◌, ℕ, ℤ, true, not, List, Option, Some, None, is_some, refl}
 use Rattle.std.proofs.lemmas.Bool.{and_parts}
-use Rattle.stream_eval.specs.stream_lists.Jobs.{with_samples}
+use Rattle.stream_lists.specs.Jobs.{with_samples}
 use Rattle.graph_runs.specs.Moments.{HasRun, Moment}
 use Rattle.graph_runs.specs.Feeds.{IsFed}
 use Rattle.graph_runs.specs.Nexts.{first_kept, first_missing}

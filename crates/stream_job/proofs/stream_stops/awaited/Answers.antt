@@ -1,7 +1,7 @@
 -- A source's input is at its number, and keeps what it has still to signal.
 use Rattle.std.proofs.Common.{◌≡◌, ◌<◌, ◌≤◌, true, length, sym, ap, ◌∙◌, arith}
-use Rattle.graph_lang.specs.graph_base.Graphs.{is_source, sources_of, task_at}
-use Rattle.graph_lang.specs.graph_base.declared.limits.TheConstants.{TASKS_MAX}
+use Rattle.graph_base.specs.Graphs.{is_source, sources_of, task_at}
+use Rattle.graph_base.specs.declared.limits.TheConstants.{TASKS_MAX}
 use Rattle.stream_job.proofs.Awaiting.{few_sources, input_there, input_read, no_source, of_source}
 use Rattle.stream_job.proofs.stream_stops.awaited.Goals as goal
 use Rattle.stream_job.proofs.stream_stops.awaited.Goals.{After-index}

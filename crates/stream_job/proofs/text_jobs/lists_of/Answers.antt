@@ -1,6 +1,6 @@
 use Rattle.std.proofs.Common.{arith, ◌≤◌, length, ap}
 use Rattle.std.proofs.lemmas.List.Elements.{All-push}
-use Rattle.phase_any.specs.phase_accum.Sends.{AreSends}
+use Rattle.phase_accum.specs.Sends.{AreSends}
 use Rattle.graph_lang.specs.declared.sample.TheConstants.{TEXT_MAX}
 use Rattle.stream_job.proofs.text_jobs.lists_of.Goals as goal
 

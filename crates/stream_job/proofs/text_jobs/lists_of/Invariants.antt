@@ -1,6 +1,6 @@
 use Rattle.std.proofs.Common.{◌≤◌, length}
 use Rattle.std.specs.List.{All}
-use Rattle.phase_any.specs.phase_accum.Sends.{AreSends}
+use Rattle.phase_accum.specs.Sends.{AreSends}
 use Rattle.graph_lang.specs.declared.sample.TheConstants.{TEXT_MAX}
 use Rattle.stream_job.proofs.text_jobs.lists_of.Given as goal
 

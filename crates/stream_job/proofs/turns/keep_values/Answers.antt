@@ -1,9 +1,9 @@
 -- One in range is kept behind the others, before those that come.
 use Rattle.std.proofs.Common.{rules, SFits, w64, to_z, of_z, pos, ◌≡◌, ◌<◌, ◌+◌, ◌++◌, ◌∷◌, [], false, length, get_or, drop, sym, ap, ◌∙◌, arith, to_z-of_z}
 use Rattle.std.proofs.lemmas.List.{append_assoc, drop_more, length-append}
-use Rattle.phase_any.specs.phase_accum.declared.outcome.Outcome.TheVariants.{Value}
-use Rattle.stream_eval.specs.stream_lists.Lists.{number as number_of}
-use Rattle.stream_eval.specs.stream_lists.Ranges.{is_too_big}
+use Rattle.phase_accum.specs.declared.outcome.Outcome.TheVariants.{Value}
+use Rattle.stream_lists.specs.Lists.{number as number_of}
+use Rattle.stream_lists.specs.Ranges.{is_too_big}
 use Rattle.stream_job.specs.SinkLines.{kept_of}
 use Rattle.stream_job.proofs.SinksKeep.{kept_first}
 use Rattle.stream_job.proofs.turns.keep_values.Goals as goal

@@ -1,6 +1,6 @@
 use Rattle.std.proofs.Common.{◌≡◌, ◌+◌, drop}
 use Rattle.std.specs.List.{position_from}
-use Rattle.stream_eval.specs.stream_lists.Ranges.{is_too_big}
+use Rattle.stream_lists.specs.Ranges.{is_too_big}
 use Rattle.stream_job.proofs.turns.told_got.Given as goal
 
 -- none before this one was too big

@@ -2,8 +2,8 @@
 use Rattle.std.proofs.Common.{rules, ◌≡◌, ◌<◌, ◌+◌, ◌*◌, ◌++◌, ◌∷◌, [], length, get_or, pos, ap, sym, ◌∙◌, zero-add, w64, FitsSigned, arith}
 use Rattle.std.proofs.lemmas.Int.{to_z-of_z}
 use Rattle.std.proofs.lemmas.List.FromFn.{length-map-range_with_len, map-range_with_len_more}
-use Rattle.stream_eval.specs.stream_lists.Lists.{entry}
-use Rattle.stream_eval.specs.stream_lists.Spans.{turns_below}
+use Rattle.stream_lists.specs.Lists.{entry}
+use Rattle.stream_lists.specs.Spans.{turns_below}
 use Rattle.stream_tasks.proofs.Shares.{turns_few}
 use Rattle.stream_tasks.proofs.deal.gather.Goals as goal
 

@@ -1,7 +1,7 @@
 -- The values so far are gathered.
 use Rattle.std.proofs.Common.{◌≡◌, ◌+◌, ◌*◌, map}
 use Rattle.std.specs.List.{range_with_len}
-use Rattle.stream_eval.specs.stream_lists.Lists.{entry}
+use Rattle.stream_lists.specs.Lists.{entry}
 use Rattle.stream_tasks.proofs.deal.gather.Given as goal
 
 abbrev pub invariant-loop-k : goal.invariant-loop-k

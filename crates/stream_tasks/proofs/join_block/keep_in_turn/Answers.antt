@@ -2,7 +2,7 @@
 use Rattle.std.proofs.Common.{rules, ◌≡◌, ◌<◌, ◌∷◌, ◌++◌, [], length, ap, sym, ◌∙◌, zero-add, w64, FitsSigned, arith}
 use Rattle.std.proofs.lemmas.Int.{to_z-of_z}
 use Rattle.std.proofs.lemmas.List.FromFn.{length-map-range_with_len, map-range_with_len_more}
-use Rattle.stream_eval.specs.stream_lists.Lists.{turn_at}
+use Rattle.stream_lists.specs.Lists.{turn_at}
 use Rattle.stream_tasks.specs.Joiners.{shares_in}
 use Rattle.stream_tasks.proofs.JoinTurns.{next_round, place_few, turn_entry}
 use Rattle.stream_tasks.proofs.join_block.keep_in_turn.Goals.{then-k-inputs, else-k-inputs}

@@ -1,7 +1,7 @@
 -- The values so far are kept, and the next is that of list k at place i.
 use Rattle.std.proofs.Common.{◌≡◌, ◌+◌, ◌*◌, ◌<◌, map}
 use Rattle.std.specs.List.{range_with_len}
-use Rattle.stream_eval.specs.stream_lists.Lists.{turn_at}
+use Rattle.stream_lists.specs.Lists.{turn_at}
 use Rattle.stream_tasks.specs.Joiners.{shares_in}
 use Rattle.stream_tasks.proofs.join_block.keep_in_turn.Given as goal
 

@@ -5,7 +5,7 @@ use Rattle.std.proofs.lemmas.Bool.{cases_lt}
 use Rattle.std.proofs.lemmas.List.{get_or-set_other, get_or-set_same, length-drop, length-set, length-take-le, take_at}
 use Rattle.std.proofs.lemmas.Slice.{take-put_mid_below}
 use borrow.Rule.Slice.PartMut.{mid_of, put_mid, same_len_mid}
-use Rattle.graph_runs.specs.phase_accum.declared.outcome.Outcome.{Outcome}
+use Rattle.phase_accum.specs.declared.outcome.Outcome.{Outcome}
 use Rattle.stream_tasks.specs.Holds.{HoldGoesOn, MemberHasWaited}
 use Rattle.stream_tasks.specs.Joiners.{HaveGiven, share_at}
 use Rattle.stream_tasks.specs.declared.hold.Hold.{Hold}

@@ -2,10 +2,10 @@
 use Rattle.std.proofs.Common.{rules, ℕ, zero, suc, ◌≡◌, ◌<◌, ◌≤◌, ◌+◌, ◌*◌, ◌++◌, List, [], ◌∷◌, map, length, get_or, pos, refl, ap, sym, ◌∙◌, zero-add, w64, FitsSigned, arith}
 use Rattle.std.proofs.lemmas.Int.{to_z-of_z}
 use Rattle.std.proofs.lemmas.List.FromFn.{length-map-range_with_len, map-range_with_len_more}
-use Rattle.graph_runs.specs.phase_accum.declared.outcome.Outcome.{Outcome}
-use Rattle.graph_runs.specs.phase_accum.declared.outcome.Outcome.TheVariants.{Value}
-use Rattle.stream_eval.specs.stream_lists.Lists.{entry, number}
-use Rattle.stream_eval.specs.stream_lists.Spans.{turns_below}
+use Rattle.phase_accum.specs.declared.outcome.Outcome.{Outcome}
+use Rattle.phase_accum.specs.declared.outcome.Outcome.TheVariants.{Value}
+use Rattle.stream_lists.specs.Lists.{entry, number}
+use Rattle.stream_lists.specs.Spans.{turns_below}
 use Rattle.stream_tasks.proofs.Shares.{turns_few}
 use Rattle.stream_tasks.proofs.keep.keep_every.Goals as goal
 use Rattle.stream_tasks.proofs.keep.keep_every.Goals.{After-loop-k}

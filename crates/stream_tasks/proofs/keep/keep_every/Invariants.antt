@@ -1,7 +1,7 @@
 -- The numbers so far are kept.
 use Rattle.std.proofs.Common.{◌≡◌, ◌+◌, ◌*◌, map}
 use Rattle.std.specs.List.{range_with_len}
-use Rattle.stream_eval.specs.stream_lists.Lists.{entry, number}
+use Rattle.stream_lists.specs.Lists.{entry, number}
 use Rattle.stream_tasks.proofs.keep.keep_every.Given as goal
 
 abbrev pub invariant-loop-k : goal.invariant-loop-k

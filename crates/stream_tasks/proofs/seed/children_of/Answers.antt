@@ -1,6 +1,6 @@
 -- The next task is a child or not.
 use Rattle.std.proofs.Common.{◌≡◌, ◌<◌, length, sym, ap, refl, ◌∙◌, subst, ◌+◌, Option, Some, None}
-use Rattle.graph_runs.specs.graph_base.Graphs.{Graph}
+use Rattle.graph_base.specs.Graphs.{Graph}
 use Rattle.stream_tasks.specs.Seeds.{AreChildrenBelow}
 use Rattle.stream_tasks.specs.Children.{TellsChild}
 use Rattle.stream_tasks.proofs.Seeding.{one_child, other_task}

@@ -1,7 +1,7 @@
 -- None so far is out of range.
 use Rattle.std.proofs.Common.{◌≡◌, ℕ, ◌<◌, false, slice_index_or}
-use Rattle.graph_runs.specs.phase_accum.declared.outcome.Outcome.{Outcome}
-use Rattle.stream_eval.specs.stream_lists.Ranges.{is_too_big}
+use Rattle.phase_accum.specs.declared.outcome.Outcome.{Outcome}
+use Rattle.stream_lists.specs.Ranges.{is_too_big}
 use Rattle.stream_tasks.proofs.turn.all_fit.Given as goal
 
 abbrev pub invariant-loop-outcome : goal.invariant-loop-outcome

@@ -2,8 +2,8 @@
 use Rattle.std.proofs.Common.{◌≡◌, ◌-◌, ◌≤◌, ◌++◌, length, map, refl, subst, ◌∙◌, arith}
 use Rattle.std.specs.Prelude.{drop, take}
 use Rattle.std.proofs.lemmas.List.{length-drop, length-map, length-take, length-take-le, take_all}
-use Rattle.graph_runs.specs.graph_base.Graphs.{task_at}
-use Rattle.stream_eval.specs.stream_lists.Lists.{number}
+use Rattle.graph_base.specs.Graphs.{task_at}
+use Rattle.stream_lists.specs.Lists.{number}
 use Rattle.stream_tasks.proofs.Taking.{MadeSoFar, made_few, made_then, numbers_then}
 use Rattle.stream_tasks.proofs.turn.filter_all.Goals as goal
 use Rattle.stream_tasks.proofs.turn.filter_all.Goals.{After-filtered_all, After-numbers_of-numbers}

@@ -1,8 +1,8 @@
 -- What the filter has made so far.
 use Rattle.std.proofs.Common.{◌≡◌, ◌≤◌, ◌-◌, map, length}
 use Rattle.std.specs.Prelude.{take, vec_capacity}
-use Rattle.graph_runs.specs.graph_base.Graphs.{task_at}
-use Rattle.stream_eval.specs.stream_lists.Lists.{number}
+use Rattle.graph_base.specs.Graphs.{task_at}
+use Rattle.stream_lists.specs.Lists.{number}
 use Rattle.stream_tasks.proofs.Taking.{MadeSoFar}
 use Rattle.stream_tasks.proofs.turn.filter_all.Given as goal
 

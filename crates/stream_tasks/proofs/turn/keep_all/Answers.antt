@@ -2,8 +2,8 @@
 use Rattle.std.proofs.Common.{rules, SFits, w64, to_z, of_z, pos, ◌≡◌, ◌<◌, ◌≤◌, ◌+◌, ◌++◌, ◌∷◌, [], length, map, get_or, refl, sym, ap, ◌∙◌, arith, to_z-of_z}
 use Rattle.std.specs.Prelude.{take}
 use Rattle.std.proofs.lemmas.List.{append_assoc, append-nil, take_more, take_all, length-append, length-map, length-take-le, map-append}
-use Rattle.graph_runs.specs.phase_accum.declared.outcome.Outcome.TheVariants.{Value}
-use Rattle.stream_eval.specs.stream_lists.Lists.{number}
+use Rattle.phase_accum.specs.declared.outcome.Outcome.TheVariants.{Value}
+use Rattle.stream_lists.specs.Lists.{number}
 use Rattle.stream_tasks.proofs.turn.keep_all.Goals as goal
 
 pub loop-outcome-init : goal.loop-outcome-init

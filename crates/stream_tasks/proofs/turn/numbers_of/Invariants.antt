@@ -1,7 +1,7 @@
 -- The numbers of the outcomes before this one.
 use Rattle.std.proofs.Common.{◌≡◌, map, length}
 use Rattle.std.specs.Prelude.{take}
-use Rattle.stream_eval.specs.stream_lists.Lists.{number}
+use Rattle.stream_lists.specs.Lists.{number}
 use Rattle.stream_tasks.proofs.turn.numbers_of.Given as goal
 
 abbrev pub invariant-loop-i : goal.invariant-loop-i

@@ -2,13 +2,13 @@
 use Rattle.std.proofs.Common.{Bool, Option, true, false, ◌≡◌, ◌∷◌, [], pos, get_or, refl, sym, ap, subst, ◌∙◌, rules, SFits, w64, to_z, of_z, to_z-of_z}
 use Rattle.std.specs.Prelude.{IfSome}
 use Rattle.std.specs.Bool.{then_some}
-use Rattle.graph_runs.specs.phase_accum.declared.outcome.Outcome.TheVariants.{Value}
-use Rattle.graph_runs.specs.graph_base.Graphs.{task_at}
-use Rattle.graph_runs.specs.graph_base.declared.line.Kind.TheVariants.{Fir}
+use Rattle.phase_accum.specs.declared.outcome.Outcome.TheVariants.{Value}
+use Rattle.graph_base.specs.Graphs.{task_at}
+use Rattle.graph_base.specs.declared.line.Kind.TheVariants.{Fir}
 use Rattle.graph_runs.specs.TaskPlaces.{owed_after_wait}
 use Rattle.graph_runs.specs.declared.owed.Owed.{Owed}
 use Rattle.graph_runs.specs.declared.owed.Owed.TheVariants.{Nothing}
-use Rattle.stream_eval.specs.stream_lists.Lists.{number}
+use Rattle.stream_lists.specs.Lists.{number}
 use Rattle.stream_tasks.specs.Children.{HasTakenFirst}
 use Rattle.stream_tasks.specs.Tasks.{owed_by}
 use Rattle.stream_tasks.proofs.Taking.{filter_owes, others_owe}

@@ -1,6 +1,6 @@
 -- The lines of an evaluation are those of a run with no starts of its own.
 use Rattle.std.proofs.Common.{subst}
-use Rattle.stream_tasks.specs.graph_base.TaskLines.{IsGraph}
+use Rattle.graph_base.specs.TaskLines.{IsGraph}
 use Rattle.stream_workers.proofs.Evaluated.{evaluated}
 use Rattle.stream_workers.proofs.whole.too_big.Goals as goal
 

@@ -1,5 +1,5 @@
 use Rattle.std.specs.Prelude.{◌≡◌}
-use Rattle.phase_received.specs.phase_shared.Regs.{phaser_lock}
+use Rattle.phase_shared.specs.Regs.{phaser_lock}
 use Rattle.thread_tests.proofs.blocks.send_blocks.Given as goal
 
 abbrev pub invariant-loop-block : goal.invariant-loop-block

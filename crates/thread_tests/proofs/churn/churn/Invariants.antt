@@ -1,5 +1,5 @@
 use Rattle.std.specs.Prelude.{◌≡◌, IfSome}
-use Rattle.phase_received.specs.phase_shared.Regs.{phaser_lock}
+use Rattle.phase_shared.specs.Regs.{phaser_lock}
 use Rattle.thread_tests.proofs.churn.churn.Given as goal
 
 -- it stays on its phaser, and so do its children

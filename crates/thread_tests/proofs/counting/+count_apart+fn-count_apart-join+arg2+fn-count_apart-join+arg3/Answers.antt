@@ -1,6 +1,6 @@
 use Rattle.std.proofs.Common.{◌≡◌, ◌-◌, ◌/◌, arith, ap}
 use Rattle.thread_tests.specs.Counting.{both}
-use Rattle.phase_received.specs.turn_lock.Seats.{seat_number, seat_view, lock_name}
+use Rattle.turn_lock.specs.Seats.{seat_number, seat_view, lock_name}
 use Rattle.thread_tests.proofs.Summing.{forks_sum, merges_sum, looks_sum, halves_joined}
 use Rattle.thread_tests.proofs.counting.+count_apart+fn-count_apart-join+arg2+fn-count_apart-join+arg3.Goals as goal
 

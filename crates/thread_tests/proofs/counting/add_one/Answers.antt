@@ -1,4 +1,4 @@
-use Rattle.phase_received.specs.turn_lock.Seats.{seat_number, seat_view, lock_name}
+use Rattle.turn_lock.specs.Seats.{seat_number, seat_view, lock_name}
 use Rattle.thread_tests.proofs.Summing.{takes_sum}
 use Rattle.thread_tests.proofs.counting.add_one.Goals as goal
 

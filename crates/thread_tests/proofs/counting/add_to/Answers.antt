@@ -1,5 +1,5 @@
 use Rattle.std.proofs.Common.{ℕ, ◌+◌, Some, arith, ap, sym, ◌∙◌}
-use Rattle.phase_received.specs.turn_lock.Seats.{turn_number, turn_view, lock_name}
+use Rattle.turn_lock.specs.Seats.{turn_number, turn_view, lock_name}
 use Rattle.thread_tests.proofs.Summing.{gives_sum}
 use Rattle.thread_tests.proofs.counting.add_to.Goals as goal
 

@@ -1,6 +1,6 @@
 use Rattle.std.proofs.Common.{◌≡◌, ◌+◌, None}
 use Rattle.thread_tests.specs.Counting.{tally}
-use Rattle.phase_received.specs.turn_lock.Seats.{seat_place, seat_view}
+use Rattle.turn_lock.specs.Seats.{seat_place, seat_view}
 use Rattle.thread_tests.proofs.counting.count_up.Given as goal
 
 -- the seat of the same lock has counted once for each turn so far

@@ -1,7 +1,7 @@
 -- The child starts where its parent stands.
 use Rattle.std.proofs.Common.{ap, ◌∙◌}
-use Rattle.phase_received.specs.phase_history.Histories.{start_of}
-use Rattle.phase_received.specs.phase_shared.Regs.{phaser_limits}
+use Rattle.phase_history.specs.Histories.{start_of}
+use Rattle.phase_shared.specs.Regs.{phaser_limits}
 use Rattle.thread_tests.proofs.parts.registers.Goals as goal
 
 pub returns-clause-start : goal.returns-clause-start

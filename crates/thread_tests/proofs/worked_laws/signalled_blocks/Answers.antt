@@ -1,7 +1,7 @@
 -- Task 1 signals two phases at once; task 2, which only waits, is refused.
 use Rattle.std.proofs.Common.{None, Ok}
-use Rattle.phase_received.specs.phase_accum.Values.{sum_value}
-use Rattle.phase_received.specs.phase_history.declared.refusal.SignalRefusal.TheVariants.{NoSignal}
+use Rattle.phase_accum.specs.Values.{sum_value}
+use Rattle.phase_history.specs.declared.refusal.SignalRefusal.TheVariants.{NoSignal}
 use Rattle.thread_tests.specs.Worked.{worked_limits, opened, begun, one_block}
 use Rattle.thread_tests.proofs.CallsLemmas.{block_signalled, block_refused}
 use Rattle.thread_tests.proofs.worked_laws.signalled_blocks.Goals as goal

@@ -1,6 +1,6 @@
 -- Task 2 has three places: it gets two values, and later that no more will come.
-use Rattle.phase_received.specs.phase_accum.Values.{sum_value}
-use Rattle.phase_received.specs.phase_history.declared.refusal.WaitRefusal.TheVariants.{NotYet}
+use Rattle.phase_accum.specs.Values.{sum_value}
+use Rattle.phase_history.specs.declared.refusal.WaitRefusal.TheVariants.{NotYet}
 use Rattle.thread_tests.specs.Worked.{worked_limits, opened, begun, one_block, both_got, all_left, three_places, two_written}
 use Rattle.thread_tests.proofs.CallsLemmas.{block_got, block_ended, block_not_yet}
 use Rattle.thread_tests.proofs.worked_laws.waited_blocks.Goals as goal

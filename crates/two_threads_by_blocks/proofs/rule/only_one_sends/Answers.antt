@@ -1,12 +1,12 @@
 use Rattle.std.proofs.Common.{◌≡◌, ◌<◌, ap, ◌∙◌, arith}
 use Rattle.std.specs.Prelude.{None, Option}
-use Rattle.phase_received.specs.phase_accum.Values.{sum_value, applied}
-use Rattle.phase_received.specs.phase_accum.declared.outcome.Outcome.TheVariants.{Empty}
-use Rattle.phase_received.specs.phase_accum.declared.single.Single.{Single}
-use Rattle.phase_received.specs.phase_history.Histories.{done_of, top_of}
-use Rattle.phase_received.specs.phase_history.Phases.{value_of_phase, single_of_phase, sends_of_phase}
-use Rattle.phase_received.specs.phase_history.Sent.{sent_in}
-use Rattle.phase_received.proofs.phase_history_lemmas.Streams.{same_values}
+use Rattle.phase_accum.specs.Values.{sum_value, applied}
+use Rattle.phase_accum.specs.declared.outcome.Outcome.TheVariants.{Empty}
+use Rattle.phase_accum.specs.declared.single.Single.{Single}
+use Rattle.phase_history.specs.Histories.{done_of, top_of}
+use Rattle.phase_history.specs.Phases.{value_of_phase, single_of_phase, sends_of_phase}
+use Rattle.phase_history.specs.Sent.{sent_in}
+use Rattle.phase_history.proofs.Streams.{same_values}
 use Rattle.two_threads_by_blocks.proofs.Sole.{names_none, others_silent}
 use Rattle.two_threads_by_blocks.proofs.rule.only_one_sends.Goals as goal
 

@@ -1,6 +1,6 @@
 -- Each is the next event, as a test says.
 use Rattle.std.proofs.Common.{[], ◌∷◌, pos, refl, arith}
-use Rattle.graph_runs.specs.phase_accum.declared.outcome.Outcome.TheVariants.{Value}
+use Rattle.phase_accum.specs.declared.outcome.Outcome.TheVariants.{Value}
 use Rattle.worked_runs.specs.WorkedBlocks.{in_blocks, block_opening, three_samples, three_waits, three_signals, after_three_samples, after_three_waits}
 use Rattle.worked_runs.proofs.BlockTests.{is_next}
 use Rattle.worked_runs.proofs.WorkedBlocks.{in_blocks-is}

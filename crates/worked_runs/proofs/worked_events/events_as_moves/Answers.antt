@@ -1,7 +1,7 @@
 -- Each is the next event, as a test says.
 use Rattle.std.proofs.Common.{ℕ, ◌<◌, refl, arith, pos}
-use Rattle.graph_runs.specs.phase_base.declared.mode.Mode.TheVariants.{Wait}
-use Rattle.graph_runs.specs.phase_accum.declared.outcome.Outcome.TheVariants.{Value}
+use Rattle.phase_base.specs.declared.mode.Mode.TheVariants.{Wait}
+use Rattle.phase_accum.specs.declared.outcome.Outcome.TheVariants.{Value}
 use Rattle.graph_runs.specs.Moments.{Moment, HasRun}
 use Rattle.worked_runs.specs.Runs.{exchange_wait}
 use Rattle.worked_runs.specs.Worked.{worked, worked_opening, worked_sample, after_first_wait, after_signal_on_e, before_late, before_end, late_registers, late_leaves}

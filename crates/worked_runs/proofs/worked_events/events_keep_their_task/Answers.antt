@@ -1,7 +1,7 @@
 -- By the law, from the moment before.
 use Rattle.std.proofs.Common.{arith, pos}
-use Rattle.graph_runs.specs.phase_base.declared.mode.Mode.TheVariants.{Wait}
-use Rattle.graph_runs.specs.phase_accum.declared.outcome.Outcome.TheVariants.{Value}
+use Rattle.phase_base.specs.declared.mode.Mode.TheVariants.{Wait}
+use Rattle.phase_accum.specs.declared.outcome.Outcome.TheVariants.{Value}
 use Rattle.worked_runs.specs.Worked.{worked, worked_opening, worked_sample, after_first_wait, before_late, with_late, before_end, worked_end, late_registers, late_leaves, by_out}
 use Rattle.worked_runs.proofs.Histories.{turn_begins, grown}
 use Rattle.worked_runs.proofs.WorkedRun.{worked-is}

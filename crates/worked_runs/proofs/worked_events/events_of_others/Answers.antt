@@ -1,8 +1,8 @@
 -- The registration is an event of out alone; the splitter and the joiner are not the source.
 use Rattle.std.proofs.Common.{◌≡◌, ℕ, [], ◌∷◌, refl, arith, subst}
-use Rattle.graph_runs.specs.phase_base.declared.mode.Mode.TheVariants.{Wait}
-use Rattle.graph_runs.specs.phase_history.declared.event.Event.TheVariants.{Registered}
-use Rattle.graph_runs.specs.phase_history.Others.{events_of}
+use Rattle.phase_base.specs.declared.mode.Mode.TheVariants.{Wait}
+use Rattle.phase_history.specs.declared.event.Event.TheVariants.{Registered}
+use Rattle.phase_history.specs.Others.{events_of}
 use Rattle.graph_runs.proofs.Registering.{others_register}
 use Rattle.worked_runs.specs.Worked.{worked, after_peer, before_late, with_late, late_registers, lane_turns, by_out}
 use Rattle.worked_runs.proofs.Histories.{turn_begins, turns_begin, grown, only_one}

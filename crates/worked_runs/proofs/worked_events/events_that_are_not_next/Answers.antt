@@ -1,7 +1,7 @@
 -- One fact of each premise does not hold.
 use Rattle.std.proofs.Common.{◌≡◌, ◌<◌, ◌≤◌, ℕ, List, length, [], ◌∷◌, Option, Some, None, refl, arith, inr}
-use Rattle.graph_runs.specs.graph_base.Graphs.{task_at}
-use Rattle.graph_runs.specs.stream_lists.Jobs.{samples_at}
+use Rattle.graph_base.specs.Graphs.{task_at}
+use Rattle.stream_lists.specs.Jobs.{samples_at}
 use Rattle.graph_runs.specs.Moments.{MayStop, at_until, no_sample, no_input}
 use Rattle.worked_runs.specs.Worked.{worked, after_peer, by_out}
 use Rattle.worked_runs.proofs.worked_events.events_that_are_not_next.Goals as goal

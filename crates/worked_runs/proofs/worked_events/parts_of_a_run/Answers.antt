@@ -1,6 +1,6 @@
 -- Late has its moment, and each other task the one before.
 use Rattle.std.proofs.Common.{ℕ, cond, eqb, [], refl}
-use Rattle.graph_runs.specs.phase_base.declared.mode.Mode.TheVariants.{Wait}
+use Rattle.phase_base.specs.declared.mode.Mode.TheVariants.{Wait}
 use Rattle.graph_runs.specs.Moments.{Moment, TaskRan}
 use Rattle.graph_runs.specs.Moves.{HasGrown, OthersMoved}
 use Rattle.graph_runs.proofs.Registering.{others_register}

@@ -1,7 +1,7 @@
 -- What was taken and made is computed.
 use Rattle.std.proofs.Common.{leb-true, refl, arith}
-use Rattle.graph_runs.specs.graph_base.TaskLines.{IsGraph}
-use Rattle.graph_runs.specs.graph_base.declared.place.Place.TheVariants as place
+use Rattle.graph_base.specs.TaskLines.{IsGraph}
+use Rattle.graph_base.specs.declared.place.Place.TheVariants as place
 use Rattle.graph_runs.specs.Settled.{IsReady}
 use Rattle.worked_runs.specs.WorkedFaults.{faulty, faulty_histories, faulty_numbers, faulty_offsets, faulty_opening, faulty_turns, faulty_moment}
 use Rattle.worked_runs.proofs.GraphTests.{is_graph}

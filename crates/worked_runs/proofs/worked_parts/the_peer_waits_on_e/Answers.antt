@@ -1,7 +1,7 @@
 -- As its place tells.
 use Rattle.std.proofs.Common.{pos, [], ◌∷◌, refl, ◌∙◌, arith}
-use Rattle.graph_runs.specs.phase_accum.declared.outcome.Outcome.TheVariants.{Value}
-use Rattle.graph_runs.specs.phase_history.declared.event.Event.TheVariants.{Waited}
+use Rattle.phase_accum.specs.declared.outcome.Outcome.TheVariants.{Value}
+use Rattle.phase_history.specs.declared.event.Event.TheVariants.{Waited}
 use Rattle.worked_runs.specs.Worked.{worked}
 use Rattle.worked_runs.specs.WorkedParts.{e_signalled, peer_exchanges, peer_owes_y}
 use Rattle.worked_runs.proofs.PeerAlone.{one_by_one, sees_own_e}

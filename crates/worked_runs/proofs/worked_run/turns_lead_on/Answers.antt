@@ -1,6 +1,6 @@
 -- Event by event, by the laws.
-use Rattle.graph_runs.specs.graph_base.TaskLines.{IsGraph}
-use Rattle.graph_runs.specs.stream_lists.Jobs.{Job}
+use Rattle.graph_base.specs.TaskLines.{IsGraph}
+use Rattle.stream_lists.specs.Jobs.{Job}
 use Rattle.graph_runs.specs.Moments.{Moment, HasRun}
 use Rattle.worked_runs.specs.Runs.{TaskEvent, sample, signal, first_wait, exchange_wait, leave, child, child_now, after_turn, IsNext}
 use Rattle.worked_runs.proofs.RunTests.{run_through}

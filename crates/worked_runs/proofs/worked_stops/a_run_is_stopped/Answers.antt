@@ -1,6 +1,6 @@
 -- Each at its own moment of the run.
 use Rattle.std.proofs.Common.{[], ◌∷◌, pos, refl, arith}
-use Rattle.graph_runs.specs.phase_accum.declared.outcome.Outcome.TheVariants.{Value}
+use Rattle.phase_accum.specs.declared.outcome.Outcome.TheVariants.{Value}
 use Rattle.graph_runs.specs.Moments.{Moment}
 use Rattle.graph_runs.specs.Stops.{HasStoppedAt}
 use Rattle.worked_runs.specs.WorkedStops.{a_saw, as_a_knows, as_b_knows, as_out_knows, b_saw, came, out_saw, stopped}

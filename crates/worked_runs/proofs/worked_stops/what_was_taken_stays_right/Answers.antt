@@ -1,8 +1,8 @@
 -- Each at a moment of its own, of a run with samples of its own.
 use Rattle.std.proofs.Common.{[], ◌∷◌, pos, refl, arith}
-use Rattle.graph_runs.specs.phase_accum.declared.outcome.Outcome.TheVariants.{Value}
+use Rattle.phase_accum.specs.declared.outcome.Outcome.TheVariants.{Value}
 use Rattle.graph_runs.specs.Stops.{StandsFed}
-use Rattle.graph_runs.specs.stream_lists.Jobs.{with_samples}
+use Rattle.stream_lists.specs.Jobs.{with_samples}
 use Rattle.worked_runs.specs.WorkedStops.{a_saw, as_a_knows, as_b_knows, as_out_knows, b_saw, came, for_a, for_b, for_out, out_saw, unfed}
 use Rattle.worked_runs.proofs.Stopped.{Knows, agree, each, none_too_big, ran_a, ran_b, ran_out, stands, still_open, stopped-is, value_in_range}
 use Rattle.worked_runs.proofs.worked_stops.what_was_taken_stays_right.Goals as goal

@@ -1,10 +1,10 @@
 -- At the opening place by place, and from there by the laws.
 use Rattle.std.proofs.Common.{◌≡◌, ℕ, zero, suc, ◌+◌, ◌<◌, [], ◌∷◌, pos, length, refl, arith}
 use Rattle.std.specs.Prelude.{slice_get, nat_lt}
-use Rattle.graph_runs.specs.graph_base.Graphs.{task_at}
+use Rattle.graph_base.specs.Graphs.{task_at}
 use Rattle.graph_runs.specs.Moments.{made_now}
 use Rattle.graph_runs.specs.Nexts.{has_left}
-use Rattle.graph_runs.specs.phase_accum.declared.outcome.Outcome.TheVariants.{Value}
+use Rattle.phase_accum.specs.declared.outcome.Outcome.TheVariants.{Value}
 use Rattle.graph_runs.specs.TaskEvents.{sample}
 use Rattle.graph_runs.specs.TaskPlaces.{StandsAt, TaskPlace, registration_at, lacking, nothing}
 use Rattle.worked_runs.specs.Worked.{worked, worked_opening, worked_sample}

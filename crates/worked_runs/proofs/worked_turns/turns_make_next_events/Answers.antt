@@ -1,8 +1,8 @@
 -- By the law; what the turns make is computed.
 use Rattle.std.proofs.Common.{◌≡◌, ℕ, zero, suc, ◌+◌, ◌<◌, true, [], ◌∷◌, Some, is_some, refl, subst, pos, arith}
 use Rattle.std.proofs.lemmas.Option.{same_Some}
-use Rattle.graph_runs.specs.graph_base.declared.line.Parent.{Parent}
-use Rattle.graph_runs.specs.graph_base.Graphs.{task_at}
+use Rattle.graph_base.specs.declared.line.Parent.{Parent}
+use Rattle.graph_base.specs.Graphs.{task_at}
 use Rattle.graph_runs.specs.TaskEvents.{sample, leave}
 use Rattle.graph_runs.specs.Nexts.{HasChildrenToCome, first_missing}
 use Rattle.worked_runs.specs.Worked.{worked, worked_opening, before_late, late_registers, before_end, by_out}

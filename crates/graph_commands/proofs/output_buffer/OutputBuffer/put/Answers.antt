@@ -1,6 +1,6 @@
 use Rattle.std.proofs.Common.{refl}
 use Rattle.std.proofs.lemmas.Result.{err_from_is_err_and, on_ok_weaker}
-use Rattle.graph_show.proofs.watched_io_lemmas.Writing.{prefix_of_prefix}
+use Rattle.watched_io.proofs.Writing.{prefix_of_prefix}
 use Rattle.graph_commands.proofs.Putting.{Puts-all}
 use Rattle.graph_commands.proofs.output_buffer.OutputBuffer.put.Goals as goal
 

@@ -3,7 +3,7 @@ use Rattle.std.specs.List.{flat_map}
 use Rattle.std.proofs.lemmas.Grind.{flat_map-append}
 use Rattle.std.proofs.lemmas.Result.{err_from_is_err_and}
 use Rattle.graph_commands.specs.OutputTexts.{value_text}
-use Rattle.graph_show.proofs.watched_io_lemmas.Items.{flat_map-rest}
+use Rattle.watched_io.proofs.Items.{flat_map-rest}
 use Rattle.graph_commands.proofs.Putting.{Puts-append, prefix_behind, prefix_within, take_on}
 use Rattle.graph_commands.proofs.output_buffer.OutputBuffer.put_all.Goals as goal
 

@@ -1,6 +1,6 @@
 use Rattle.std.proofs.Common.{◌≡◌, ◌≤◌, ◌-◌, length, take}
 use Rattle.std.specs.List.{flat_map}
-use Rattle.graph_show.specs.watched_io.Watched.{has_failed_of, inner_of}
+use Rattle.watched_io.specs.Watched.{has_failed_of, inner_of}
 use Rattle.graph_commands.specs.OutputTexts.{value_text}
 use Rattle.graph_commands.specs.Puts.{PutsBytes}
 use Rattle.graph_commands.proofs.output_buffer.OutputBuffer.put_all.Given as goal

@@ -1,6 +1,6 @@
 use Rattle.std.proofs.Common.{map}
 use Rattle.std.specs.List.{flat_map, range_with_len}
-use Rattle.graph_show.specs.watched_io.Watched.{inner_of}
+use Rattle.watched_io.specs.Watched.{inner_of}
 use Rattle.stream_eval.specs.Results.{sink_values}
 use Rattle.graph_commands.specs.ColumnTexts.{cell_at}
 use Rattle.graph_commands.specs.Puts.{PutsBytes}

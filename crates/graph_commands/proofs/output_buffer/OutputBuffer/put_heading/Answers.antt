@@ -1,7 +1,7 @@
 use Rattle.std.proofs.Common.{◌≡◌, ◌++◌, [], codes, decimal, rules, subst}
 use Rattle.std.specs.Prelude.{OnErr}
-use Rattle.graph_show.specs.watched_io.Prefix.{AppendsPrefix}
-use Rattle.graph_show.specs.watched_io.Watched.{inner_of}
+use Rattle.watched_io.specs.Prefix.{AppendsPrefix}
+use Rattle.watched_io.specs.Watched.{inner_of}
 use Rattle.graph_commands.proofs.Putting.{six_texts}
 use Rattle.graph_commands.proofs.output_buffer.OutputBuffer.put_heading.Goals as goal
 

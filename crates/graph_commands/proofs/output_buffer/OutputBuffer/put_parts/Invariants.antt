@@ -1,6 +1,6 @@
 use Rattle.std.proofs.Common.{◌≡◌, take}
 use Rattle.std.specs.List.{flat_map}
-use Rattle.graph_show.specs.watched_io.Watched.{has_failed_of, inner_of}
+use Rattle.watched_io.specs.Watched.{has_failed_of, inner_of}
 use Rattle.graph_commands.specs.Puts.{PutsBytes, bytes_of}
 use Rattle.graph_commands.proofs.output_buffer.OutputBuffer.put_parts.Given as goal
 

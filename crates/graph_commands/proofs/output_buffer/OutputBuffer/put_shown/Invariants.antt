@@ -1,6 +1,6 @@
 use Rattle.std.proofs.Common.{map, take}
 use Rattle.graph_show.specs.Explanations.{shown}
-use Rattle.graph_show.specs.watched_io.Watched.{inner_of}
+use Rattle.watched_io.specs.Watched.{inner_of}
 use Rattle.graph_commands.specs.Puts.{PutsBytes}
 use Rattle.graph_commands.proofs.output_buffer.OutputBuffer.put_shown.Given as goal
 

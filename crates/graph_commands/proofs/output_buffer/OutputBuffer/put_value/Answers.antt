@@ -1,7 +1,7 @@
 -- Of what waited a prefix was written.
 use Rattle.std.proofs.Common.{refl}
 use Rattle.std.proofs.lemmas.Result.{err_from_is_err_and}
-use Rattle.graph_show.proofs.watched_io_lemmas.Writing.{prefix_of_prefix}
+use Rattle.watched_io.proofs.Writing.{prefix_of_prefix}
 use Rattle.graph_commands.specs.OutputTexts.{value_text}
 use Rattle.graph_commands.proofs.output_buffer.OutputBuffer.put_value.Goals as goal
 

@@ -1,8 +1,8 @@
 use Rattle.std.proofs.Common.{◌∙◌, refl, sym, subst}
-use Rattle.stream_workers.proofs.graph_commands_lemmas.Counted.{known-same}
-use Rattle.stream_workers.proofs.graph_commands_lemmas.Ends.{failure-not-done, fails-place, unanswered-place}
-use Rattle.phase_eval.specs.phase_words.RunLine.{run_of}
-use Rattle.stream_workers.specs.graph_commands.Folders.{known_by}
+use Rattle.graph_commands.proofs.Counted.{known-same}
+use Rattle.graph_commands.proofs.Ends.{failure-not-done, fails-place, unanswered-place}
+use Rattle.phase_words.specs.RunLine.{run_of}
+use Rattle.graph_commands.specs.Folders.{known_by}
 use Rattle.phase.specs.Ends.{MayEndAsRun}
 use Rattle.phase.specs.Runs.{Stalls}
 use Rattle.phase.proofs.Asking.{failure-ends}

@@ -1,7 +1,7 @@
 use Rattle.std.proofs.Common.{inl, inr, refl, sym, subst, ◌∙◌}
-use Rattle.phase_eval.proofs.phase_words_lemmas.Answering.{may-end-answered, may-end-taken, refused-silent, unbegun}
-use Rattle.phase_eval.specs.phase_words.RunLine.{Run}
-use Rattle.stream_workers.specs.graph_commands.watched_io.States.{writer_state}
+use Rattle.phase_words.proofs.Answering.{may-end-answered, may-end-taken, refused-silent, unbegun}
+use Rattle.phase_words.specs.RunLine.{Run}
+use Rattle.watched_io.specs.States.{writer_state}
 use Rattle.phase.specs.Ends.{EndsAsRun}
 use Rattle.phase.proofs.run.cli.run_graph.Goals as goal
 

@@ -1,11 +1,11 @@
 use Rattle.std.proofs.Common.{◌≡◌, inl, inr, map, refl, rules}
 use Rattle.std.specs.List.{All}
-use Rattle.stream_workers.proofs.graph_commands_lemmas.Needed.{needed-graph}
-use Rattle.stream_workers.proofs.stream_eval_lemmas.SinkStarts.{outputs-are}
-use Rattle.stream_workers.specs.graph_commands.stream_lists.Jobs.{Job, with_starts}
-use Rattle.stream_workers.specs.graph_commands.stream_lists.Lists.{lines_of, start_in}
-use Rattle.stream_workers.specs.stream_eval.Results.{sink_values}
-use Rattle.stream_workers.proofs.stream_eval_lemmas.stream_lists_lemmas.Basics.{answer_fits}
+use Rattle.graph_commands.proofs.Needed.{needed-graph}
+use Rattle.stream_eval.proofs.SinkStarts.{outputs-are}
+use Rattle.stream_lists.specs.Jobs.{Job, with_starts}
+use Rattle.stream_lists.specs.Lists.{lines_of, start_in}
+use Rattle.stream_eval.specs.Results.{sink_values}
+use Rattle.stream_lists.proofs.Basics.{answer_fits}
 use Rattle.phase.proofs.Answered.{answer-lines, told-in_time}
 use Rattle.phase.proofs.run.graph_run.run_asked.Goals as goal
 

@@ -1,7 +1,7 @@
 -- The child has the number that is next.
 use Rattle.std.proofs.Common.{◌≡◌, ℕ, subst}
 use Rattle.std.specs.Prelude.{Some, None}
-use Rattle.phase_core.specs.phase_history.Refusals.{register_refusal}
+use Rattle.phase_history.specs.Refusals.{register_refusal}
 use Rattle.phase_any.proofs.any_phaser.AnyPhaser.join.Goals as goal
 
 pub returns-in-Ok-clause-ok : goal.returns-in-Ok-clause-ok

@@ -4,8 +4,8 @@ use Rattle.std.proofs.lemmas.Bool.{eqb-false, true≢false}
 use Rattle.std.proofs.lemmas.List.{take_all}
 use Rattle.circular_buffer.specs.Buffer.{buffer}
 use Rattle.phase_history.specs.Replies.{signal_reply}
-use Rattle.phase_registry.specs.phase_base.Members.{entry_of}
-use Rattle.phase_registry.specs.phase_base.Modes.{mode_signals, mode_waits}
+use Rattle.phase_base.specs.Members.{entry_of}
+use Rattle.phase_base.specs.Modes.{mode_signals, mode_waits}
 use Rattle.phase_core.specs.Blocks.{one_each}
 use Rattle.phase_core.specs.Cores.{StandsFor}
 use Rattle.phase_core.specs.Plain.{IsPlain, plain_core}

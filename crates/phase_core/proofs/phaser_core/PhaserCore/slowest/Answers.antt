@@ -1,7 +1,7 @@
 -- The members are those of the history, and so is their least wait phase.
 use Rattle.std.proofs.Common.{◌≡◌, refl, ap, ◌∙◌}
 use Rattle.std.specs.Prelude.{unwrap_or}
-use Rattle.phase_registry.specs.phase_base.Members.{least, wait_phases}
+use Rattle.phase_base.specs.Members.{least, wait_phases}
 use Rattle.phase_history.specs.Histories.{members_of}
 use Rattle.phase_core.proofs.phaser_core.PhaserCore.slowest.Goals as goal
 

@@ -1,7 +1,7 @@
 -- The values lie in two slices.
 use Rattle.std.proofs.Common.{◌-◌, sym, subst, arith}
-use Rattle.phase_history.proofs.phase_accum_lemmas.Parts.{AreSends-append_left, AreSends-append_right, AreSends-take, AreSends-drop}
-use Rattle.phase_history.specs.phase_accum.Sends.{AreSends}
+use Rattle.phase_accum.proofs.Parts.{AreSends-append_left, AreSends-append_right, AreSends-take, AreSends-drop}
+use Rattle.phase_accum.specs.Sends.{AreSends}
 use Rattle.phase_core.specs.Plain.{plain_value}
 use Rattle.phase_core.proofs.TwoSlices.{written_in_two}
 use Rattle.phase_core.proofs.plain.Plain.write.Goals as goal

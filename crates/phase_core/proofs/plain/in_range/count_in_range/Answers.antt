@@ -4,8 +4,8 @@ use Rattle.std.specs.Prelude.{slice_index_or}
 use Rattle.std.specs.List.{take_while}
 use Rattle.std.proofs.lemmas.List.Folds.{length-prefix_len}
 use Rattle.std.proofs.lemmas.List.Sums.{prefix_len_is}
-use Rattle.phase_history.specs.phase_accum.declared.outcome.Outcome.{Outcome}
-use Rattle.phase_history.specs.phase_accum.declared.outcome.Outcome.TheVariants.{Value}
+use Rattle.phase_accum.specs.declared.outcome.Outcome.{Outcome}
+use Rattle.phase_accum.specs.declared.outcome.Outcome.TheVariants.{Value}
 use Rattle.phase_core.specs.Blocks.{is_not_too_big}
 use Rattle.phase_core.proofs.plain.in_range.count_in_range.Goals as goal
 

@@ -1,7 +1,7 @@
 -- None of the values so far is too big.
 use Rattle.std.proofs.Common.{◌≡◌, ℕ, pos, ◌<◌, true}
 use Rattle.std.specs.Prelude.{slice_index_or}
-use Rattle.phase_history.specs.phase_accum.declared.outcome.Outcome.TheVariants.{Value}
+use Rattle.phase_accum.specs.declared.outcome.Outcome.TheVariants.{Value}
 use Rattle.phase_core.specs.Blocks.{is_not_too_big}
 use Rattle.phase_core.proofs.plain.in_range.count_in_range.Given as goal
 

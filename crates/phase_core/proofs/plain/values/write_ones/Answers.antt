@@ -1,8 +1,8 @@
 -- One more place has its value.
 use Rattle.std.proofs.Common.{◌<◌, pos, length, get_or, ◌∙◌, ap}
 use Rattle.phase_ring.proofs.Held.{AreSends-at}
-use Rattle.phase_history.specs.phase_accum.Sends.{IsSend}
-use Rattle.phase_history.proofs.phase_accum_lemmas.Parts.{send-same}
+use Rattle.phase_accum.specs.Sends.{IsSend}
+use Rattle.phase_accum.proofs.Parts.{send-same}
 use Rattle.phase_core.specs.Plain.{plain_value}
 use Rattle.phase_core.proofs.PlainWaits.{ones_fill}
 use Rattle.phase_core.proofs.plain.values.write_ones.Goals as goal

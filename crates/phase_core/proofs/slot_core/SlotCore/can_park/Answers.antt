@@ -1,7 +1,7 @@
 -- Nothing is kept where the slowest waiter stands at the top.
 use Rattle.std.proofs.Common.{◌≡◌, Some, sym, ◌∙◌, ap}
 use Rattle.std.proofs.lemmas.Bool.{eqb-true}
-use Rattle.phase_registry.specs.phase_base.Members.{entry_of}
+use Rattle.phase_base.specs.Members.{entry_of}
 use Rattle.phase_core.specs.Cores.{CoreState}
 use Rattle.phase_core.proofs.Boarded.{boarded_while}
 use Rattle.phase_core.proofs.Parked.{bare_of}

@@ -1,6 +1,6 @@
 -- The board's done is that of the history, while a waiter is registered.
 use Rattle.std.proofs.Common.{◌≡◌, ◌<◌, length, arith}
-use Rattle.phase_registry.specs.phase_base.Members.{wait_phases}
+use Rattle.phase_base.specs.Members.{wait_phases}
 use Rattle.phase_core.specs.Cores.{StandsFor, core_of}
 use Rattle.phase_core.proofs.Boarded.{boarded_of}
 use Rattle.phase_core.proofs.NewCore.{done_of_boarded}

@@ -1,6 +1,6 @@
 -- The task leaves the registry, and the board where a waiter is registered after it.
 use Rattle.std.proofs.Common.{◌∷◌, length, refl, sym, ap, ◌∙◌}
-use Rattle.phase_registry.specs.phase_base.Members.{wait_phases}
+use Rattle.phase_base.specs.Members.{wait_phases}
 use Rattle.phase_registry.specs.Rosters.{Roster}
 use Rattle.phase_history.specs.declared.event.Event.TheVariants.{Dropped}
 use Rattle.phase_history.specs.Histories.{History}

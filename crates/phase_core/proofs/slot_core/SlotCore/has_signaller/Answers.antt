@@ -1,7 +1,7 @@
 -- A list has a least number where it is not empty.
 use Rattle.std.proofs.Common.{sym, ◌∙◌, ap}
 use Rattle.std.specs.Prelude.{nat_lt}
-use Rattle.phase_registry.specs.phase_base.Members.{signal_phases}
+use Rattle.phase_base.specs.Members.{signal_phases}
 use Rattle.phase_core.proofs.Boarded.{is_some-least}
 use Rattle.phase_core.proofs.slot_core.SlotCore.has_signaller.Goals as goal
 

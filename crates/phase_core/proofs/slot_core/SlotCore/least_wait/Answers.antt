@@ -1,6 +1,6 @@
 -- The slowest waiter stands at the base.
 use Rattle.std.proofs.Common.{◌≡◌, Some, length, sym, ◌∙◌, ap}
-use Rattle.phase_registry.specs.phase_base.Members.{wait_phases}
+use Rattle.phase_base.specs.Members.{wait_phases}
 use Rattle.phase_core.proofs.Boarded.{boarded_of, slowest_is}
 use Rattle.phase_core.proofs.slot_core.SlotCore.least_wait.Goals as goal
 

@@ -1,6 +1,6 @@
 -- The only member goes on in both roles.
 use Rattle.std.proofs.Common.{◌≡◌, Some, refl, sym, ◌∙◌, ap, arith}
-use Rattle.phase_registry.specs.phase_base.Members.{entry_of, signalled}
+use Rattle.phase_base.specs.Members.{entry_of, signalled}
 use Rattle.phase_history.proofs.MemberLemmas.{entry_of-changed_same}
 use Rattle.phase_history.proofs.Received.{none_from}
 use Rattle.phase_registry.specs.Rosters.{Roster}

@@ -1,6 +1,6 @@
 -- The child joins beside its parent, on the board too where a waiter is registered.
 use Rattle.std.proofs.Common.{◌≡◌, ◌∷◌, true, sym, ◌∙◌, rules}
-use Rattle.phase_registry.specs.phase_base.Modes.{holds}
+use Rattle.phase_base.specs.Modes.{holds}
 use Rattle.phase_history.specs.declared.event.Event.TheVariants.{Registered}
 use Rattle.phase_history.specs.Histories.{History}
 use Rattle.phase_core.specs.Cores.{StandsFor, core_of}

@@ -2,10 +2,10 @@
 use Rattle.std.proofs.Common.{◌≡◌, true, ◌+◌, ◌++◌, length, sym, ap, subst, ◌∙◌}
 use Rattle.std.specs.List.{All}
 use Rattle.std.proofs.lemmas.List.{length-map}
-use Rattle.phase_history.proofs.phase_accum_lemmas.Parts.{AreSends-append_left, AreSends-append_right}
-use Rattle.phase_registry.specs.phase_base.declared.member.Member.{Member}
-use Rattle.phase_registry.specs.phase_base.Limits.{Limits}
-use Rattle.phase_registry.specs.phase_base.Members.{Members, signal_phases, wait_phases}
+use Rattle.phase_accum.proofs.Parts.{AreSends-append_left, AreSends-append_right}
+use Rattle.phase_base.specs.declared.member.Member.{Member}
+use Rattle.phase_base.specs.Limits.{Limits}
+use Rattle.phase_base.specs.Members.{Members, signal_phases, wait_phases}
 use Rattle.phase_ring.specs.declared.role.Role.{Role}
 use Rattle.phase_ring.specs.Restarts.{MayBePlaced, ring_of_ones}
 use Rattle.phase_ring.specs.Rings.{sents}

@@ -1,6 +1,6 @@
 -- A block of one: the rows before its phase, then those of the phase; then its sends join.
 use Rattle.std.proofs.Common.{◌≡◌, [], ◌∷◌, None, refl, sym, ◌∙◌, arith}
-use Rattle.phase_registry.specs.phase_base.Lists.{first_row}
+use Rattle.phase_base.specs.Lists.{first_row}
 use Rattle.phase_core.specs.Cores.{StandsFor, core_of}
 use Rattle.phase_core.specs.Blocks.{block_rows}
 use Rattle.phase_core.proofs.Admitting.{Met, passed, refusal, within, replied, stands_alone, core_alone, taken, may_signal, stands_after, core_after}

@@ -2,7 +2,7 @@
 -- slot of each phase that a waiter has still to get.
 use Rattle.std.proofs.Common.{◌≡◌, ◌<◌, Some, None, sym, subst, ◌∙◌, arith}
 use Rattle.std.specs.Prelude.{is_some}
-use Rattle.phase_registry.specs.phase_base.Members.{signal_phases, least}
+use Rattle.phase_base.specs.Members.{signal_phases, least}
 use Rattle.phase_history.proofs.InRange.{wait_reply-in_range}
 use Rattle.phase_core.specs.Cores.{CoreState, StandsFor, core_of}
 use Rattle.phase_core.proofs.WaitCore.{Awaits, here, one_replied, waits_ended, waits_value, stands_after_wait, core_after_wait}

@@ -1,7 +1,7 @@
 -- As many as are complete, of as many as were asked for.
 use Rattle.std.proofs.Common.{◌≡◌, ℕ, ◌-◌, ◌<◌, min, drop, ◌++◌, Some, None, Ok, length, sym, subst, ◌∙◌, ap, arith}
 use Rattle.std.specs.Prelude.{is_some}
-use Rattle.phase_registry.specs.phase_base.Members.{signal_phases, least}
+use Rattle.phase_base.specs.Members.{signal_phases, least}
 use Rattle.phase_history.specs.declared.got.GotBlock.TheVariants as got
 use Rattle.phase_history.specs.Histories.{History}
 use Rattle.phase_history.specs.Refusals.{wait_refusal}

@@ -2,9 +2,8 @@
 use Rattle.std.proofs.Common.{◌≡◌, ◌+◌, ◌≤◌, length, get_or, sym, ap, ◌∙◌, arith}
 use Rattle.std.specs.Prelude.{take}
 use Rattle.std.proofs.lemmas.List.{length-take-le, take_more}
-use Rattle.phase_registry.specs.phase_base.Members.{Members}
+use Rattle.phase_base.specs.Members.{Members, member}
 use Rattle.phase_registry.specs.Rosters.{nobody}
-use Rattle.phase_registry.specs.phase_base.Members.{member}
 use Rattle.phase_ring.specs.declared.role.Role.{Role}
 use Rattle.phase_ring.specs.declared.role.Role.TheVariants.{Signaller, Waiter}
 use Rattle.phase_ring.specs.Standings.{count_of, counted}

@@ -1,8 +1,8 @@
 -- The values that were got stand in the first places, and their numbers are written.
 use Rattle.std.proofs.Common.{ap, ◌∙◌, Ok}
-use Rattle.phase_any.specs.phase_accum.Values.{value_by}
-use Rattle.phase_any.specs.phase_history.Phases.{stream_of}
-use Rattle.phase_any.specs.phase_core.Blocks.{written}
+use Rattle.phase_accum.specs.Values.{value_by}
+use Rattle.phase_history.specs.Phases.{stream_of}
+use Rattle.phase_core.specs.Blocks.{written}
 use Rattle.handle_numbers.proofs.BlockWaits.{got_of, numbers-got, numbers-named}
 use Rattle.phase_handle.proofs.handle.Handle.wait_into.Goals as goal
 

@@ -3,7 +3,7 @@ use Rattle.std.proofs.Common.{◌≡◌, true, sym, subst}
 use Rattle.phase_history.specs.Histories.{History}
 use Rattle.phase_history.specs.Legal.{IsLegal}
 use Rattle.phase_history.specs.Others.{OnlyUsed, events_of, children_in}
-use Rattle.phase_accum.specs.phase_base.Lists.{is_in}
+use Rattle.phase_base.specs.Lists.{is_in}
 use Rattle.phase_history.proofs.Descent.{OnlyUsed-descent}
 use Rattle.phase_history.proofs.laws.others.all_descend.Goals as goal
 

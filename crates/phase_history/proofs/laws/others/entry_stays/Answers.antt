@@ -1,6 +1,6 @@
 -- Another task's accepted event leaves the entry.
 use Rattle.std.proofs.Common.{◌≡◌, Some, sym, subst}
-use Rattle.phase_accum.specs.phase_base.Members.{entry_of}
+use Rattle.phase_base.specs.Members.{entry_of}
 use Rattle.phase_history.specs.Histories.{History, members_of}
 use Rattle.phase_history.specs.Legal.{IsLegal}
 use Rattle.phase_history.proofs.Used.{entry_of-others}

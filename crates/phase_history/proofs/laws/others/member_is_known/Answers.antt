@@ -1,5 +1,5 @@
 -- No row of a table has the answer.
-use Rattle.phase_accum.specs.phase_base.declared.mode.Mode.TheVariants.{Wait}
+use Rattle.phase_base.specs.declared.mode.Mode.TheVariants.{Wait}
 use Rattle.phase_history.proofs.Answered.{register_refusal-never, signal_refusal-never, wait_refusal-never, drop_refusal-member}
 use Rattle.phase_history.proofs.laws.others.member_is_known.Goals as goal
 

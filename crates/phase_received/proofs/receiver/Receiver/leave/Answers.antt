@@ -1,6 +1,6 @@
 -- Leaving receives nothing, and no more comes after the end.
 use Rattle.std.proofs.Common.{◌≡◌, [], ◌∷◌, map, sym, ap, subst, ◌∙◌}
-use Rattle.phase_shared.specs.phase_history.Phases.{received_by}
+use Rattle.phase_history.specs.Phases.{received_by}
 use Rattle.phase_shared.specs.Regs.{RegState, PastState, phaser_limits}
 use Rattle.phase_received.specs.Received.{received_of}
 use Rattle.phase_received.specs.Whole.{HasSeenEnd, HasWhole}

@@ -1,6 +1,6 @@
 -- A new child has received nothing, and its parent no more.
 use Rattle.std.proofs.Common.{◌≡◌, [], sym, ap, subst, ◌∙◌}
-use Rattle.phase_shared.specs.phase_history.Phases.{received_by}
+use Rattle.phase_history.specs.Phases.{received_by}
 use Rattle.phase_shared.specs.Regs.{phaser_limits}
 use Rattle.phase_shared.specs.Calls.{Tries}
 use Rattle.phase_shared.specs.Joins.{RegistersNow, IsChildNow}

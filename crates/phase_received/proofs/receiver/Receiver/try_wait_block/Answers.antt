@@ -1,8 +1,8 @@
 -- Where no more will come, no registered task signals, and each phase was got.
 use Rattle.std.proofs.Common.{◌≡◌, sym, ap, subst, ◌∙◌}
 use Rattle.std.specs.Prelude.{Result, Ok}
-use Rattle.phase_shared.specs.phase_history.declared.got.GotBlock.{GotBlock}
-use Rattle.phase_shared.specs.phase_history.declared.refusal.WaitRefusal.{WaitRefusal}
+use Rattle.phase_history.specs.declared.got.GotBlock.{GotBlock}
+use Rattle.phase_history.specs.declared.refusal.WaitRefusal.{WaitRefusal}
 use Rattle.phase_shared.specs.declared.tried.Tried.{Tried}
 use Rattle.phase_shared.specs.Calls.{Tries}
 use Rattle.phase_shared.specs.Blocks.{WaitsBlock}

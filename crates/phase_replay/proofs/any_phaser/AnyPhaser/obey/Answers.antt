@@ -1,11 +1,11 @@
 -- Each operation's phaser obeys by itself.
 use Rattle.std.proofs.Common.{refl}
-use Rattle.phase_script.specs.phase_accum.Sums.{sum_operation}
-use Rattle.phase_script.specs.phase_accum.Products.{product_operation}
-use Rattle.phase_script.specs.phase_accum.Leasts.{least_operation}
-use Rattle.phase_script.specs.phase_accum.Greatests.{greatest_operation}
-use Rattle.phase_script.specs.phase_accum.Anys.{any_operation}
-use Rattle.phase_core.specs.phase_base.declared.operation.Op.TheVariants.{Sum, Product, Least, Greatest, Any}
+use Rattle.phase_accum.specs.Sums.{sum_operation}
+use Rattle.phase_accum.specs.Products.{product_operation}
+use Rattle.phase_accum.specs.Leasts.{least_operation}
+use Rattle.phase_accum.specs.Greatests.{greatest_operation}
+use Rattle.phase_accum.specs.Anys.{any_operation}
+use Rattle.phase_base.specs.declared.operation.Op.TheVariants.{Sum, Product, Least, Greatest, Any}
 use Rattle.phase_script.specs.Commands.{whole_command}
 use Rattle.phase_replay.proofs.Operations.{replies_under, stands_under, ok_under, under_sum, under_product, under_least, under_greatest, under_any}
 use Rattle.phase_replay.proofs.any_phaser.AnyPhaser.obey.Goals as goal

@@ -1,6 +1,6 @@
 use Rattle.std.proofs.Common.{◌∙◌, ap, refl, rules}
 use Rattle.std.proofs.lemmas.List.{nil_from_length}
-use Rattle.phase_core.specs.phase_base.Lists.{without_cr}
+use Rattle.phase_base.specs.Lists.{without_cr}
 use Rattle.phase_replay.specs.declared.replayer.Replayer.{Replayer}
 use Rattle.phase_replay.proofs.Owing.{owes_more, owes_answered, owes_answered_whole}
 use Rattle.phase_replay.proofs.replayer.Replayer.answer.Goals as goal

@@ -1,7 +1,7 @@
 -- A signaller that holds no sends is refused as its signal is.
 use Rattle.std.proofs.Common.{◌≡◌, ◌∙◌, true, length, sym, arith, rules, subst}
-use Rattle.phase_core.specs.phase_base.Modes.{mode_signals}
-use Rattle.phase_script.specs.phase_accum.Parcels.{Parcel, StandsForSends}
+use Rattle.phase_base.specs.Modes.{mode_signals}
+use Rattle.phase_accum.specs.Parcels.{Parcel, StandsForSends}
 use Rattle.phase_core.specs.Blocks.{one_each}
 use Rattle.phase_replay.specs.Scripts.{held_by}
 use Rattle.phase_replay.proofs.Obeying.{block_refused}

@@ -1,8 +1,8 @@
 -- A send that is taken stands behind those that the task holds.
 use Rattle.std.proofs.Common.{◌≡◌, true, rules, sym, subst}
 use Rattle.std.proofs.lemmas.Int.{to_z-of_z}
-use Rattle.phase_core.specs.phase_base.Modes.{mode_signals}
-use Rattle.phase_script.specs.phase_accum.Parcels.{Parcel, StandsForSends}
+use Rattle.phase_base.specs.Modes.{mode_signals}
+use Rattle.phase_accum.specs.Parcels.{Parcel, StandsForSends}
 use Rattle.phase_replay.specs.Scripts.{held_by}
 use Rattle.phase_replay.proofs.Obeying.{phaser_sent}
 use Rattle.phase_replay.proofs.script_phaser.ScriptPhaser.send.Goals as goal

@@ -1,6 +1,6 @@
 -- The core is handed the sends of the task.
 use Rattle.std.proofs.Common.{sym, subst}
-use Rattle.phase_script.specs.phase_accum.Parcels.{Parcel, StandsForSends}
+use Rattle.phase_accum.specs.Parcels.{Parcel, StandsForSends}
 use Rattle.phase_replay.specs.Scripts.{held_by}
 use Rattle.phase_replay.proofs.Obeying.{phaser_signalled}
 use Rattle.phase_replay.proofs.script_phaser.ScriptPhaser.signal.Goals as goal

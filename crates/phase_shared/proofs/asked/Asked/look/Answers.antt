@@ -5,7 +5,7 @@ use Rattle.phase_shared.specs.Phasers.{History, Outcome}
 use Rattle.phase_shared.specs.declared.rule.Terms.{Terms}
 use Rattle.phase_shared.specs.LockedPhasers.{locked_terms}
 use Rattle.phase_shared.specs.Regs.{RegState}
-use Rattle.phase_core.specs.phase_history.declared.got.Got.TheVariants.{Value}
+use Rattle.phase_history.specs.declared.got.Got.TheVariants.{Value}
 use Rattle.phase_shared.specs.Asked.{HasGone}
 use Rattle.phase_shared.specs.Servings.{ask_of, IsAsking, HasAnswer}
 use Rattle.phase_shared.specs.Views.{known_of}

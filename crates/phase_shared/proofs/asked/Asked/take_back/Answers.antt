@@ -1,7 +1,7 @@
 use Rattle.std.proofs.Common.{◌≡◌, Some, None, refl, subst, ap, ◌∙◌}
 use Rattle.std.specs.Prelude.{Option, Result, IfSome, IfNone, Ok, Err}
 use Rattle.turn_lock.specs.Seats.{seat_view}
-use Rattle.phase_core.specs.phase_history.declared.got.Got.TheVariants.{Value}
+use Rattle.phase_history.specs.declared.got.Got.TheVariants.{Value}
 use Rattle.phase_shared.specs.Phasers.{History, Outcome, SignalRefusal}
 use Rattle.phase_shared.specs.declared.rule.Terms.{Terms}
 use Rattle.phase_shared.specs.LockedPhasers.{locked_terms}

@@ -1,6 +1,6 @@
 use Rattle.std.proofs.Common.{◌≡◌, None, Some, Ok, Err, sym, ap, subst, ◌∙◌}
 use Rattle.std.specs.Prelude.{is_ok, IfSome, IfNone}
-use Rattle.phase_core.specs.phase_history.declared.refusal.SignalRefusal.TheVariants.{NoTask}
+use Rattle.phase_history.specs.declared.refusal.SignalRefusal.TheVariants.{NoTask}
 use Rattle.phase_shared.specs.Calls.{IsCall, MaySignal, HeldAfter}
 use Rattle.phase_shared.specs.Entries.{entry_after_next}
 use Rattle.phase_shared.specs.Nexts.{GoesOrRefuses}

@@ -1,5 +1,5 @@
 use Rattle.std.proofs.Common.{Err, subst, ap, ◌∙◌}
-use Rattle.phase_core.specs.phase_history.declared.refusal.WaitRefusal.TheVariants.{NotYet}
+use Rattle.phase_history.specs.declared.refusal.WaitRefusal.TheVariants.{NotYet}
 use Rattle.phase_shared.specs.Phasers.{History, wait_phase, IsLegal, wait_refusal, got_at}
 use Rattle.phase_shared.specs.Regs.{phaser_limits}
 use Rattle.phase_shared.specs.Calls.{Waits}

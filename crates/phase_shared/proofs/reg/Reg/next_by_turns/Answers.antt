@@ -2,7 +2,7 @@ use Rattle.std.proofs.Common.{◌≡◌, ℕ, Some, Ok, true, false, sym, subst,
 use Rattle.std.specs.Prelude.{is_some}
 use Rattle.phase_shared.specs.Phasers.{Entry, mode_signals, mode_waits, entry_of, signalled, Got, History, members_of, IsLegal, Limits}
 use Rattle.phase_shared.specs.Regs.{RegState, phaser_limits, phaser_terms}
-use Rattle.phase_core.specs.phase_history.declared.refusal.SignalRefusal.TheVariants.{NoTask}
+use Rattle.phase_history.specs.declared.refusal.SignalRefusal.TheVariants.{NoTask}
 use Rattle.phase_shared.specs.Calls.{IsCall, Signals, Waits}
 use Rattle.phase_shared.specs.Entries.{entry_after_next}
 use Rattle.phase_shared.specs.Nexts.{GoesOrRefuses, SignalsAndMayWait, HasSignalledAndMayWait}

@@ -1,6 +1,6 @@
 use Rattle.std.proofs.Common.{◌≡◌, [], ◌∷◌, length, Ok, Err, refl, sym, subst, ap, ◌∙◌}
 use Rattle.phase_shared.specs.Phasers.{History, OthersCame}
-use Rattle.phase_core.specs.phase_history.declared.refusal.SignalRefusal.TheVariants.{Ahead, NoTask}
+use Rattle.phase_history.specs.declared.refusal.SignalRefusal.TheVariants.{Ahead, NoTask}
 use Rattle.phase_shared.specs.Regs.{phaser_terms}
 use Rattle.phase_shared.specs.Calls.{Tries}
 use Rattle.phase_shared.specs.Blocks.{SignalsBlock, entry_after_block}

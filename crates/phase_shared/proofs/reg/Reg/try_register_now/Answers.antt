@@ -1,7 +1,7 @@
 use Rattle.std.proofs.Common.{◌≡◌, ℕ, Some, refl, sym, subst, ◌∙◌, rules}
 use Rattle.std.specs.Prelude.{Ok, Result}
 use Rattle.turn_lock.specs.Seats.{seat_view, IsSameSeat}
-use Rattle.phase_core.specs.phase_history.declared.refusal.RegisterRefusal.TheVariants.{NoTask}
+use Rattle.phase_history.specs.declared.refusal.RegisterRefusal.TheVariants.{NoTask}
 use Rattle.turn_lock.specs.declared.seat.Seat.{Seat}
 use Rattle.phase_shared.specs.Phasers.{Entry, History, RegisterRefusal, CoreState}
 use Rattle.phase_shared.specs.declared.rule.Terms.{Terms}

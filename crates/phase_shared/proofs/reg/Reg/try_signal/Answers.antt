@@ -1,6 +1,6 @@
 use Rattle.std.proofs.Common.{◌≡◌, false, subst, ap, ◌∙◌, rules}
 use Rattle.std.specs.Result.{result_ok}
-use Rattle.phase_core.specs.phase_base.Members.{signalled}
+use Rattle.phase_base.specs.Members.{signalled}
 use Rattle.phase_shared.specs.Regs.{phaser_limits}
 use Rattle.phase_shared.specs.Calls.{Tries}
 use Rattle.phase_shared.specs.Entries.{entry_after_both}

@@ -1,7 +1,7 @@
 use Rattle.std.proofs.Common.{◌≡◌, ℕ, Option, Some, None, true, false, refl, sym, subst}
 use Rattle.std.specs.Prelude.{Result, IsErr}
 use Rattle.phase_shared.specs.Phasers.{Entry, Parcel, Got, SignalRefusal, StandsForSends}
-use Rattle.phase_core.specs.phase_history.declared.refusal.SignalRefusal.TheVariants.{NoTask}
+use Rattle.phase_history.specs.declared.refusal.SignalRefusal.TheVariants.{NoTask}
 use Rattle.phase_shared.specs.declared.rule.Terms.{Terms}
 use Rattle.phase_shared.specs.declared.tried.Tried.{Tried}
 use Rattle.phase_shared.specs.Regs.{RegState, reg_state, phaser_terms}

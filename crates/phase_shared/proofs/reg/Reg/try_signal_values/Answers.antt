@@ -1,5 +1,5 @@
 use Rattle.std.proofs.Common.{length, refl, sym, subst}
-use Rattle.phase_core.specs.phase_history.declared.refusal.SignalRefusal.TheVariants.{NoTask}
+use Rattle.phase_history.specs.declared.refusal.SignalRefusal.TheVariants.{NoTask}
 use Rattle.phase_shared.specs.Regs.{RegState, phaser_terms, phaser_limits}
 use Rattle.phase_shared.specs.Blocks.{SignalsValues, MaySignalValues, entry_after_block}
 use Rattle.phase_shared.proofs.Opening.{opened, closed, is_try}

@@ -1,5 +1,5 @@
 use Rattle.std.proofs.Common.{refl}
-use Rattle.phase_core.specs.phase_history.declared.refusal.WaitRefusal.TheVariants.{NoTask}
+use Rattle.phase_history.specs.declared.refusal.WaitRefusal.TheVariants.{NoTask}
 use Rattle.phase_shared.specs.Regs.{phaser_limits}
 use Rattle.phase_shared.specs.Calls.{Waits}
 use Rattle.phase_shared.specs.Entries.{entry_after_wait}

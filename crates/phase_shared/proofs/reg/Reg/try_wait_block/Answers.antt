@@ -1,6 +1,6 @@
 use Rattle.std.proofs.Common.{◌≡◌, Some, refl}
 use Rattle.turn_lock.specs.Seats.{IsSameSeat}
-use Rattle.phase_core.specs.phase_history.declared.refusal.WaitRefusal.TheVariants.{NoTask}
+use Rattle.phase_history.specs.declared.refusal.WaitRefusal.TheVariants.{NoTask}
 use Rattle.phase_shared.specs.Regs.{RegState, reg_state, phaser_limits}
 use Rattle.phase_shared.specs.Blocks.{WaitsBlock, entry_after_values}
 use Rattle.phase_shared.proofs.Opening.{opened, closed, same_reg, is_try_as}

@@ -1,6 +1,6 @@
 use Rattle.std.proofs.Common.{◌≡◌, [], ◌∷◌, Ok, Err, List, refl, sym, subst, ap, ◌∙◌}
 use Rattle.phase_shared.specs.Phasers.{Outcome, History, OthersCame}
-use Rattle.phase_core.specs.phase_history.declared.refusal.WaitRefusal.TheVariants.{NotYet, NoTask}
+use Rattle.phase_history.specs.declared.refusal.WaitRefusal.TheVariants.{NotYet, NoTask}
 use Rattle.phase_shared.specs.Regs.{phaser_terms}
 use Rattle.phase_shared.specs.Calls.{Tries}
 use Rattle.phase_shared.specs.Closings.{refusal_of_stop}

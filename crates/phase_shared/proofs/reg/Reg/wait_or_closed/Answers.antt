@@ -1,6 +1,6 @@
 use Rattle.std.proofs.Common.{◌≡◌, [], ◌∷◌, Ok, Err, sym, subst, ap, refl, ◌∙◌}
 use Rattle.phase_shared.specs.Phasers.{History, OthersCame}
-use Rattle.phase_core.specs.phase_history.declared.refusal.WaitRefusal.TheVariants.{NotYet, NoTask}
+use Rattle.phase_history.specs.declared.refusal.WaitRefusal.TheVariants.{NotYet, NoTask}
 use Rattle.phase_shared.specs.Regs.{phaser_terms}
 use Rattle.phase_shared.specs.Calls.{Tries, Waits}
 use Rattle.phase_shared.specs.Closings.{refusal_of_stop}

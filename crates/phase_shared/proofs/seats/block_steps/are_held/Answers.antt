@@ -1,6 +1,6 @@
 use Rattle.std.proofs.Common.{◌≤◌, [], length}
 use Rattle.phase_core.proofs.SignalRows.{held_next}
-use Rattle.phase_core.proofs.phase_ring_lemmas.Blocks.{drop-all}
+use Rattle.phase_ring.proofs.Blocks.{drop-all}
 use Rattle.phase_shared.proofs.seats.block_steps.are_held.Goals as goal
 
 pub loop-pending-init : goal.loop-pending-init

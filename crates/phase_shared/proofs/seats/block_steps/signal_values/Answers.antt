@@ -4,8 +4,8 @@ use Rattle.std.specs.Result.{result_ok}
 use Rattle.std.proofs.lemmas.List.{length-map}
 use Rattle.turn_lock.specs.Seats.{seat_view, turn_view, turn_value, turn_number, turn_told, IsSameSeat}
 use Rattle.phase_shared.specs.Phasers.{SignalRefusal, signal_phase, signal_refusal, signal_reply, after_signal, one_each}
-use Rattle.phase_core.specs.phase_history.declared.refusal.SignalRefusal.TheVariants as signal
-use Rattle.phase_core.proofs.phase_history_lemmas.Answered.{signal_refusal-never}
+use Rattle.phase_history.specs.declared.refusal.SignalRefusal.TheVariants as signal
+use Rattle.phase_history.proofs.Answered.{signal_refusal-never}
 use Rattle.phase_shared.specs.LockedPhasers.{locked_terms}
 use Rattle.phase_shared.specs.Views.{Unknown, resting, turning, known_of, speaks_of}
 use Rattle.phase_shared.specs.Rule.{StandsWithin}

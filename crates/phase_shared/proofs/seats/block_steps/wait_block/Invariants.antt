@@ -1,5 +1,5 @@
 use Rattle.std.specs.Prelude.{◌≡◌}
-use Rattle.phase_core.specs.phase_history.Replies.{after_wait_block}
+use Rattle.phase_history.specs.Replies.{after_wait_block}
 use Rattle.phase_shared.specs.Views.{resting, known_of, speaks_of}
 use Rattle.phase_shared.proofs.seats.block_steps.wait_block.Given as goal
 

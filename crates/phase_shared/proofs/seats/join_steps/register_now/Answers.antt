@@ -1,9 +1,9 @@
 use Rattle.std.proofs.Common.{◌≡◌, [], ◌∷◌, None, true, false, refl, sym, ap, ◌∙◌, rules}
 use Rattle.turn_lock.specs.Seats.{seat_view, turn_view, turn_value, turn_number, turn_told, IsSameSeat}
 use Rattle.phase_shared.specs.Phasers.{Entry, Event, History, done_of, entry_at, register_now_refusal, StandsFor}
-use Rattle.phase_core.specs.phase_base.declared.mode.Mode.TheVariants.{Wait}
-use Rattle.phase_core.specs.phase_history.declared.event.Event.TheVariants.{RegisteredNow}
-use Rattle.phase_core.specs.phase_history.declared.refusal.RegisterRefusal.TheVariants as register
+use Rattle.phase_base.specs.declared.mode.Mode.TheVariants.{Wait}
+use Rattle.phase_history.specs.declared.event.Event.TheVariants.{RegisteredNow}
+use Rattle.phase_history.specs.declared.refusal.RegisterRefusal.TheVariants as register
 use Rattle.phase_shared.specs.LockedPhasers.{locked_terms}
 use Rattle.phase_shared.specs.Views.{resting, known_of}
 use Rattle.phase_shared.specs.Rule.{StandsWithin}

@@ -5,7 +5,7 @@ use Rattle.turn_lock.specs.WordSteps.{BusyOf}
 use Rattle.phase_shared.specs.Views.{knowledge, resting, known_of}
 use Rattle.phase_shared.specs.Rule.{StandsWithin, HasOneHistory}
 use Rattle.std.specs.Prelude.{is_some}
-use Rattle.phase_core.proofs.phase_history_lemmas.Used.{IsUsed-member}
+use Rattle.phase_history.proofs.Used.{IsUsed-member}
 use Rattle.phase_shared.proofs.Small.{is_in_self}
 use Rattle.phase_shared.proofs.Taking.{takes}
 use Rattle.phase_shared.proofs.Joining.{never_busy}

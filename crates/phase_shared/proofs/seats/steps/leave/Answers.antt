@@ -3,12 +3,12 @@ use Rattle.std.specs.Prelude.{Result, IsOk, is_some}
 use Rattle.phase_shared.specs.LockedPhasers.{locked_terms}
 use Rattle.turn_lock.specs.Seats.{turn_view, turn_value, turn_number, turn_told}
 use Rattle.phase_shared.specs.Phasers.{entry_of}
-use Rattle.phase_core.specs.phase_history.declared.event.Event.TheVariants.{Dropped}
+use Rattle.phase_history.specs.declared.event.Event.TheVariants.{Dropped}
 use Rattle.phase_shared.specs.Views.{resting, known_of, speaks_of}
 use Rattle.phase_shared.specs.Rule.{StandsWithin}
 use Rattle.phase_shared.specs.declared.seats.view.View.{View}
 use Rattle.phase_shared.proofs.Giving.{gives_own, own_none, own_event, lent, after_call, AfterCall}
-use Rattle.phase_core.specs.phase_history.declared.refusal.NoTask.{NoTask}
+use Rattle.phase_history.specs.declared.refusal.NoTask.{NoTask}
 use Rattle.phase_shared.proofs.seats.steps.leave.Goals as goal
 
 -- an accepted drop answers nothing else

@@ -1,5 +1,5 @@
 use Rattle.std.specs.Prelude.{◌≡◌, ◌∷◌}
-use Rattle.phase_core.specs.phase_history.declared.event.Event.TheVariants.{Dropped}
+use Rattle.phase_history.specs.declared.event.Event.TheVariants.{Dropped}
 use Rattle.phase_shared.specs.Views.{resting, known_of, speaks_of}
 use Rattle.phase_shared.proofs.seats.steps.leave.Given as goal
 

@@ -2,13 +2,13 @@ use Rattle.std.proofs.Common.{◌≡◌, ℤ, List, [], ◌∷◌, Err, true, fa
 use Rattle.std.specs.Prelude.{is_some}
 use Rattle.phase_shared.specs.LockedPhasers.{locked_terms}
 use Rattle.turn_lock.specs.Seats.{seat_view, turn_view, turn_value, turn_number, turn_told}
-use Rattle.phase_core.specs.phase_history.declared.event.Event.TheVariants.{Signalled}
+use Rattle.phase_history.specs.declared.event.Event.TheVariants.{Signalled}
 use Rattle.phase_shared.specs.Phasers.{History, signal_phase, CoreState, signal_reply, wait_reply, after_wait, StandsForSends, signal_refusal, signalled}
 use Rattle.phase_shared.specs.Views.{resting, known_of, speaks_of}
 use Rattle.phase_shared.specs.Rule.{StandsWithin}
 use Rattle.phase_shared.specs.declared.seats.view.View.{View}
-use Rattle.phase_core.specs.phase_history.declared.refusal.SignalRefusal.TheVariants as signal
-use Rattle.phase_core.proofs.phase_history_lemmas.Answered.{signal_refusal-never}
+use Rattle.phase_history.specs.declared.refusal.SignalRefusal.TheVariants as signal
+use Rattle.phase_history.proofs.Answered.{signal_refusal-never}
 use Rattle.phase_shared.proofs.Answering.{refused_is}
 use Rattle.phase_shared.proofs.Giving.{AfterCall, after_call, gives_own, gives_same, own_none, own_event, station, stays, lent, told_entry}
 use Rattle.std.specs.Result.{result_ok}

@@ -1,6 +1,6 @@
 use Rattle.std.specs.Prelude.{◌≡◌, ℤ, List, [], ◌∷◌}
 use Rattle.phase_shared.specs.Phasers.{StandsForSends, after_wait}
-use Rattle.phase_core.specs.phase_history.declared.event.Event.TheVariants.{Signalled}
+use Rattle.phase_history.specs.declared.event.Event.TheVariants.{Signalled}
 use Rattle.phase_shared.specs.Views.{resting, known_of, speaks_of}
 use Rattle.phase_shared.proofs.seats.steps.signal.Given as goal
 

@@ -1,14 +1,14 @@
 -- What its sink has, behind what it had.
-use Rattle.std.proofs.Common.{◌≡◌, ◌<◌, ◌++◌, ◌∙◌, true, false, length, get_or, sym, ap, subst}
+use Rattle.std.proofs.Common.{◌≡◌, ◌<◌, ◌+◌, ◌++◌, ◌∙◌, true, false, length, get_or, min, sym, ap, subst}
 use Rattle.stream_job.specs.SinkLines.{kept_by, sink_begins_at}
 use Rattle.stream_job.specs.Streams.{ended_at}
-use Rattle.stream_job.specs.graph_runs.InTime.{BeginsInTime}
-use Rattle.stream_job.specs.stream_lists.Lists.{sinks_of}
+use Rattle.graph_runs.specs.InTime.{BeginsInTime}
+use Rattle.stream_lists.specs.Lists.{sinks_of}
 use Rattle.stream_job.proofs.GivenLines.{sink_there}
 use Rattle.phase_stream.specs.Columns.{InRuns, started_column}
 use Rattle.phase_stream.specs.Sessions.{sink_list}
 use Rattle.phase_stream.specs.declared.column.Column.{Column}
-use Rattle.phase_stream.proofs.TakenColumns.{found_or_not, has_more, left_over, stays_over, with_items, with_least, with_task}
+use Rattle.phase_stream.proofs.TakenColumns.{found_or_not, has_more, left_over, stays_over, with_count, with_items, with_least, with_task}
 use Rattle.phase_stream.proofs.column.Column.take.Goals as goal
 use Rattle.phase_stream.proofs.column.Column.take.Goals.{else-not-self, else-self-2, then-not-self, then-self-2}
 
@@ -51,6 +51,9 @@ returns-clause-ok c = λ s m given step start list at stands.
           (same.least ∙ ap (λ (x : Column). x.least) is ∙ with_least found old)
           (c.in_ok-keep.ensures.ok ∙ ap (λ (x : Column). x.values.items ++ values) is
           ∙ ap (λ l. l ++ values) (with_items found old))
+          (c.in_ok-keep.ensures.counted
+          ∙ ap (λ (x : Column). min 18446744073709551615 (x.count + length values)) is
+          ∙ ap (λ n. min 18446744073709551615 (n + length values)) (with_count found old))
           (c.values.ensures.kept s m given at)
           (λ later fed ready. c.values.ensures.right s m given later at fed ready) whole in
           found_or_not stream s m given old new values step start list found at there more stands
@@ -65,6 +68,8 @@ returns-clause-ok c = λ s m given step start list at stands.
           (same.task ∙ ap (λ (x : Column). x.task) is)
           (same.least ∙ ap (λ (x : Column). x.least) is)
           (c.in_ok-keep.ensures.ok ∙ ap (λ (x : Column). x.values.items ++ values) is)
+          (c.in_ok-keep.ensures.counted
+          ∙ ap (λ (x : Column). min 18446744073709551615 (x.count + length values)) is)
           (c.values.ensures.kept s m given at)
           (λ later fed ready. c.values.ensures.right s m given later at fed ready) whole in
           stays_over stream s m (given old.task) old new values step start list more stands

@@ -2,7 +2,7 @@
 use Rattle.std.proofs.Common.{◌≡◌, ◌∙◌, ℕ, ℤ, List, Some, true, arith}
 use Rattle.stream_job.specs.Gone.{has_gone}
 use Rattle.stream_job.specs.Streams.{IsStreamAt}
-use Rattle.stream_job.specs.graph_runs.Moments.{Moment}
+use Rattle.graph_runs.specs.Moments.{Moment}
 use Rattle.phase_stream.specs.Sessions.{IsKeptWhole, task_for}
 use Rattle.phase_stream.proofs.Targets.{one_more, task_within}
 use Rattle.phase_stream.proofs.session.Session.have_left.Goals as goal

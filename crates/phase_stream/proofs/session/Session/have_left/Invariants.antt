@@ -1,7 +1,7 @@
 use Rattle.std.proofs.Common.{◌≡◌, ◌<◌, ℕ, ℤ, List, Some, true}
 use Rattle.stream_job.specs.Gone.{has_gone}
 use Rattle.stream_job.specs.Streams.{IsStreamAt}
-use Rattle.stream_job.specs.graph_runs.Moments.{Moment}
+use Rattle.graph_runs.specs.Moments.{Moment}
 use Rattle.phase_stream.specs.Sessions.{IsKeptWhole, task_for}
 use Rattle.phase_stream.proofs.session.Session.have_left.Given as goal
 

@@ -3,7 +3,7 @@ use Rattle.std.proofs.Common.{◌≡◌, ℕ, ℤ, List, Some, arith}
 use mathlib.Core.List.{IsPrefix}
 use Rattle.stream_job.specs.SinkLines.{kept_by}
 use Rattle.stream_job.specs.Streams.{IsStreamAt}
-use Rattle.stream_job.specs.graph_runs.Moments.{Moment}
+use Rattle.graph_runs.specs.Moments.{Moment}
 use Rattle.phase_stream.specs.Sessions.{IsKeptRight, task_for}
 use Rattle.phase_stream.proofs.Targets.{one_more, task_within}
 use Rattle.phase_stream.proofs.session.Session.kept_is_right.Goals as goal

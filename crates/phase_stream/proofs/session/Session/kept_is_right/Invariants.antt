@@ -2,7 +2,7 @@ use Rattle.std.proofs.Common.{◌≡◌, ◌<◌, ℕ, ℤ, List, Some}
 use mathlib.Core.List.{IsPrefix}
 use Rattle.stream_job.specs.SinkLines.{kept_by}
 use Rattle.stream_job.specs.Streams.{IsStreamAt}
-use Rattle.stream_job.specs.graph_runs.Moments.{Moment}
+use Rattle.graph_runs.specs.Moments.{Moment}
 use Rattle.phase_stream.specs.Sessions.{IsKeptRight, task_for}
 use Rattle.phase_stream.proofs.session.Session.kept_is_right.Given as goal
 

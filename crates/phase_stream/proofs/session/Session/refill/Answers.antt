@@ -3,7 +3,7 @@ use Rattle.std.proofs.Common.{◌≡◌, ℕ, List, [], Option, Some, length, ge
 use Rattle.std.specs.Vec.{with_item}
 use Rattle.std.proofs.lemmas.Option.{slice_get_read}
 use Rattle.graph_commands.specs.FileJobs.{Known}
-use Rattle.stream_job.specs.graph_base.Graphs.{file_at}
+use Rattle.graph_base.specs.Graphs.{file_at}
 use Rattle.phase_stream.specs.Sessions.{IsKnownAs, StandsBy}
 use Rattle.phase_stream.specs.Sources.{GivesSource}
 use Rattle.phase_stream.proofs.Refilling.{Fed, fed_last, fed_more, fed_of, fed_short, gives_as, known_as, within_so, lacks_as, lacks_none, lacks_so, named_as, not_less}

@@ -1,7 +1,7 @@
 -- Turns lead to a later moment, with the same samples and nothing more handed over.
 use Rattle.std.proofs.Common.{refl, subst}
 use Rattle.stream_job.specs.Streams.{StreamStopsAt, after_sized}
-use Rattle.stream_job.specs.stream_lists.Jobs.{with_samples}
+use Rattle.stream_lists.specs.Jobs.{with_samples}
 use Rattle.phase_stream.proofs.Standing.{came_same, sources_same, stop_means, with_four}
 use Rattle.phase_stream.proofs.session.Session.run.Goals as goal
 

@@ -2,7 +2,7 @@
 use Rattle.std.proofs.Common.{◌<◌, [], length, take, refl, subst, rules}
 use Rattle.std.proofs.lemmas.Result.{IfOk-weaker}
 use Rattle.std.specs.Io.KnownBytes.{Consumes}
-use Rattle.graph_commands.specs.watched_io.Watched.{inner_of}
+use Rattle.watched_io.specs.Watched.{inner_of}
 use Rattle.phase_stream.proofs.Reading.{read_on}
 use Rattle.phase_stream.proofs.source.OpenFile.read.Goals as goal
 

@@ -1,7 +1,7 @@
 -- By the text that was kept of the file.
 use Rattle.std.proofs.Common.{subst}
 use Rattle.std.specs.Prelude.{IfSome}
-use Rattle.sample_pieces.proofs.graph_lang_lemmas.Grown.{weaken_some}
+use Rattle.graph_lang.proofs.Grown.{weaken_some}
 use Rattle.phase_stream.specs.Sources.{IsTextOfFile}
 use Rattle.phase_stream.proofs.source.OpenFile.told.Goals as goal
 

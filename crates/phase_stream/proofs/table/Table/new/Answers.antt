@@ -1,6 +1,6 @@
 -- A column behind those before it.
 use Rattle.std.proofs.Common.{◌≡◌, ◌∙◌, ℕ, sym, ap}
-use Rattle.stream_job.specs.graph_base.Graphs.{is_sink, task_at}
+use Rattle.graph_base.specs.Graphs.{is_sink, task_at}
 use Rattle.phase_stream.proofs.TakenLines.{new_more, new_same}
 use Rattle.phase_stream.proofs.table.Table.new.Goals as goal
 use Rattle.phase_stream.proofs.table.Table.new.Goals.{then-is_sink+in_ok-push, else-is_sink}

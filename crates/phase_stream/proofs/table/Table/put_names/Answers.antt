@@ -2,9 +2,9 @@
 use Rattle.std.proofs.Common.{◌≡◌, ◌<◌, ◌++◌, ◌∙◌, ℕ, List, [], None, Some, length, get_or, map, slice_get, refl, sym, ap, subst, arith}
 use Rattle.std.proofs.lemmas.Option.{slice_get_read}
 use Rattle.graph_commands.specs.ColumnTexts.{SinkValues, cell_at, comma_before}
-use Rattle.stream_job.specs.graph_base.Graphs.{Graph, name_at}
-use Rattle.stream_job.specs.graph_base.declared.place.Place.TheVariants as place
-use Rattle.stream_job.specs.stream_lists.Lists.{sinks_of}
+use Rattle.graph_base.specs.Graphs.{Graph, name_at}
+use Rattle.graph_base.specs.declared.place.Place.TheVariants as place
+use Rattle.stream_lists.specs.Lists.{sinks_of}
 use Rattle.phase_stream.proofs.LineTexts.{bare_line_at, cells_more}
 use Rattle.phase_stream.proofs.RightTables.{column_there}
 use Rattle.phase_stream.proofs.table.Table.put_names.Goals as goal

@@ -1,7 +1,7 @@
 use Rattle.std.proofs.Common.{◌≡◌, ◌++◌, None, [], map}
 use Rattle.std.specs.List.{flat_map, range_with_len}
 use Rattle.graph_commands.specs.ColumnTexts.{cell_at}
-use Rattle.stream_job.specs.stream_lists.Lists.{sinks_of}
+use Rattle.stream_lists.specs.Lists.{sinks_of}
 use Rattle.phase_stream.proofs.table.Table.put_names.Given as goal
 
 -- the names before this one were put

@@ -4,8 +4,10 @@ use Rattle.std.proofs.lemmas.List.{length-map}
 use Rattle.std.proofs.lemmas.Option.{slice_get_read}
 use Rattle.stream_job.specs.SinkLines.{kept_by}
 use Rattle.stream_job.specs.Streams.{ended_at}
-use Rattle.stream_job.specs.stream_lists.Lists.{sinks_of}
+use Rattle.stream_lists.specs.Jobs.{Job as JobValue}
+use Rattle.stream_lists.specs.Lists.{sinks_of}
 use Rattle.phase_stream.specs.Columns.{ColumnStands}
+use Rattle.phase_stream.specs.TableLines.{Shows, by_number}
 use Rattle.phase_stream.proofs.NextLines.{shows_first}
 use Rattle.phase_stream.proofs.RightTables.{column_there}
 use Rattle.phase_stream.proofs.TakenLines.{columns_tasks, shows_behind, shows_given, takes_more, taken_all, taken_apart, taken_here, taken_none, taken_not, taken_of}
@@ -76,6 +78,13 @@ loop-number-preserved c =
           (λ k apart. taken_apart job m given n k apart))),
     )
 
+pub leave_absent-requires : goal.leave_absent-requires
+leave_absent-requires c =
+    c.loop-number.invariant.0 ∙ c.requires ∙ ap (λ j. sinks_of j) (sym c.job.ensures)
+
+pub returns-clause-tasks : goal.returns-clause-tasks
+returns-clause-tasks c = c.leave_absent.ensures.tasks ∙ c.loop-number.invariant.0
+
 pub returns-clause-ok : goal.returns-clause-ok
 returns-clause-ok c = λ going s m given view at shows.
     (let stream = c.args.stream.now in
@@ -89,7 +98,14 @@ returns-clause-ok c = λ going s m given view at shows.
     sym (length-map c.args.self.now.columns.items (λ column. column.task)) ∙ ap length c.requires in
     record {
       later = first.later;
-      shows = taken_all job (ended_at stream) going s m given c.loop-number.self.columns.items
-          first.later c.loop-number.number (omega arith) first.shows;
+      shows = subst (λ (j : JobValue). Shows j (ended_at stream) going s m
+          (by_number job (kept_by job m)) c.leave_absent.new.self.columns.items first.later)
+          c.job.ensures
+          (c.leave_absent.ensures.shows (ended_at stream) going s m (by_number job (kept_by job m))
+          first.later (subst (λ (j : JobValue). Shows j (ended_at stream) going s m
+          (by_number job (kept_by job m)) c.loop-number.self.columns.items first.later)
+          (sym c.job.ensures)
+          (taken_all job (ended_at stream) going s m given c.loop-number.self.columns.items
+          first.later c.loop-number.number (omega arith) first.shows)));
       text = first.text;
     })

@@ -1,6 +1,6 @@
 use Rattle.std.proofs.Common.{◌≡◌, ℕ, ℤ, Bool, List, [], map}
 use Rattle.stream_job.specs.Streams.{IsStreamAt, ended_at}
-use Rattle.stream_job.specs.graph_runs.Moments.{Moment}
+use Rattle.graph_runs.specs.Moments.{Moment}
 use Rattle.phase_stream.specs.TableLines.{Shows, ShowsMore, View, by_number}
 use Rattle.phase_stream.proofs.TakenLines.{taken_of}
 use Rattle.phase_stream.proofs.table.Table.take.Given as goal

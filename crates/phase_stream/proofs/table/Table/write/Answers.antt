@@ -4,8 +4,8 @@ use Rattle.std.proofs.KnownBytes.{Appends-trans}
 use Rattle.std.specs.Io.KnownBytes.{Appends}
 use Rattle.std.specs.List.{list_all, list_any}
 use Rattle.std.proofs.lemmas.Bool.{and_parts}
-use Rattle.graph_commands.specs.watched_io.Prefix.{AppendsPrefix}
-use Rattle.graph_commands.specs.watched_io.Watched.{inner_of}
+use Rattle.watched_io.specs.Prefix.{AppendsPrefix}
+use Rattle.watched_io.specs.Watched.{inner_of}
 use Rattle.phase_stream.specs.Columns.{has_value, is_known}
 use Rattle.phase_stream.specs.TableLines.{ShowsMore, has_line}
 use Rattle.phase_stream.proofs.EachColumn.{fewer_lines, left_passed}

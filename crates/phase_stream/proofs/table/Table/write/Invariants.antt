@@ -1,8 +1,8 @@
 use Rattle.std.proofs.Common.{◌≡◌, ◌++◌, ℕ, ℤ, Bool, true, List}
 use Rattle.std.specs.Io.KnownBytes.{Appends}
-use Rattle.graph_commands.specs.watched_io.Watched.{inner_of}
-use Rattle.stream_job.specs.graph_runs.Moments.{Moment}
-use Rattle.stream_job.specs.stream_lists.Jobs.{Job}
+use Rattle.watched_io.specs.Watched.{inner_of}
+use Rattle.graph_runs.specs.Moments.{Moment}
+use Rattle.stream_lists.specs.Jobs.{Job}
 use Rattle.phase_stream.specs.TableLines.{Shows, ShowsMore, View, have_left}
 use Rattle.phase_stream.proofs.EachColumn.{weights}
 use Rattle.phase_stream.proofs.table.Table.write.Given as goal

@@ -1,7 +1,7 @@
 -- A line is read behind what was read before it.
 use Rattle.std.proofs.Common.{rules, ◌≡◌, [], ◌∷◌, ◌++◌, false, w64, to_z, of_z, refl, sym, subst}
 use Rattle.std.specs.Fmt.{signed_decimal}
-use Rattle.graph_lang.proofs.graph_base_lemmas.phase_accum_lemmas.Parts.{send-same}
+use Rattle.phase_accum.proofs.Parts.{send-same}
 use Rattle.sample_pieces.specs.Pieces.{HasRead}
 use Rattle.sample_pieces.specs.declared.reader.SampleReader.{SampleReader}
 use Rattle.sample_pieces.specs.declared.step.Where.TheVariants as place

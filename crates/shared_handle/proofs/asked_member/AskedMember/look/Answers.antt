@@ -1,8 +1,8 @@
 -- The next phase that was asked for is one of these values, from where the registration asked.
 use Rattle.std.proofs.Common.{◌≡◌, true, sym, ap, subst, ◌∙◌}
 use Rattle.std.specs.Prelude.{None, Ok}
-use Rattle.phase_shared.specs.phase_accum.Parcels.{StandsForSends}
-use Rattle.phase_shared.specs.phase_base.Modes.{mode_signals, mode_waits}
+use Rattle.phase_accum.specs.Parcels.{StandsForSends}
+use Rattle.phase_base.specs.Modes.{mode_signals, mode_waits}
 use Rattle.phase_shared.specs.Regs.{phaser_lock, phaser_terms}
 use Rattle.shared_handle.specs.Members.{AskedRegistration, as_registration, sent_value}
 use Rattle.shared_handle.specs.Calls.{NextCall, both_of}

@@ -1,7 +1,7 @@
 -- What was taken back is a signal of these values, and a wait where that has an answer.
 use Rattle.std.proofs.Common.{sym, ap, subst, ◌∙◌}
 use Rattle.std.specs.Prelude.{None}
-use Rattle.phase_shared.specs.phase_accum.Parcels.{StandsForSends}
+use Rattle.phase_accum.specs.Parcels.{StandsForSends}
 use Rattle.phase_shared.specs.Regs.{phaser_lock}
 use Rattle.shared_handle.specs.Members.{AskedRegistration, as_registration, sent_value}
 use Rattle.shared_handle.specs.Calls.{NextCall}

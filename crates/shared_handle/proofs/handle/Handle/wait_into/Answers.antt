@@ -1,8 +1,8 @@
 -- What was got is written as numbers.
 use Rattle.std.proofs.Common.{◌≡◌, Ok, Err, refl, subst}
-use Rattle.phase_shared.specs.phase_accum.Values.{value_by}
-use Rattle.phase_shared.specs.phase_history.declared.got.GotBlock.{GotBlock}
-use Rattle.phase_shared.specs.phase_history.declared.got.GotBlock.TheVariants as block
+use Rattle.phase_accum.specs.Values.{value_by}
+use Rattle.phase_history.specs.declared.got.GotBlock.{GotBlock}
+use Rattle.phase_history.specs.declared.got.GotBlock.TheVariants as block
 use Rattle.shared_handle.specs.AnyMembers.{op_in, state_in, held_in}
 use Rattle.shared_handle.specs.Calls.{BlockWaitCall}
 use Rattle.shared_handle.specs.NumberBlocks.{NumbersCall}

@@ -1,6 +1,6 @@
 -- The registration has left, by a history that is legal under the limits of its phaser.
 use Rattle.std.proofs.Common.{sym, ap, subst, ◌∙◌}
-use Rattle.phase_shared.specs.phase_history.Legal.{IsLegal}
+use Rattle.phase_history.specs.Legal.{IsLegal}
 use Rattle.phase_shared.specs.Regs.{phaser_lock}
 use Rattle.shared_handle.specs.Members.{HasLeft, IsOnlyOne, as_registration, limits_by}
 use Rattle.shared_handle.proofs.member.Member.leave.Goals as goal

@@ -1,7 +1,7 @@
 -- The registration holds what stands for the values, signals it, and waits where it can.
 use Rattle.std.proofs.Common.{◌≡◌, true, sym, ap, subst, ◌∙◌}
-use Rattle.phase_shared.specs.phase_accum.Parcels.{StandsForSends}
-use Rattle.phase_shared.specs.phase_history.declared.refusal.SignalRefusal.{SignalRefusal}
+use Rattle.phase_accum.specs.Parcels.{StandsForSends}
+use Rattle.phase_history.specs.declared.refusal.SignalRefusal.{SignalRefusal}
 use Rattle.phase_shared.specs.Nexts.{SignalsAndMayWait}
 use Rattle.phase_shared.specs.Entries.{entry_after_both}
 use Rattle.phase_shared.specs.Regs.{phaser_lock, phaser_limits}

@@ -1,7 +1,7 @@
 -- The registration holds what stands for the values, and signals it.
 use Rattle.std.proofs.Common.{◌≡◌, sym, ap, subst, ◌∙◌}
-use Rattle.phase_shared.specs.phase_accum.Parcels.{StandsForSends}
-use Rattle.phase_shared.specs.phase_history.declared.refusal.SignalRefusal.{SignalRefusal}
+use Rattle.phase_accum.specs.Parcels.{StandsForSends}
+use Rattle.phase_history.specs.declared.refusal.SignalRefusal.{SignalRefusal}
 use Rattle.phase_shared.specs.Calls.{Signals}
 use Rattle.phase_shared.specs.Entries.{entry_after_signal}
 use Rattle.phase_shared.specs.Regs.{phaser_lock, phaser_limits}

@@ -2,9 +2,9 @@
 use Rattle.std.proofs.Common.{◌≡◌, ℕ, ◌++◌, length, take, drop, sym, ap, subst, ◌∙◌, arith}
 use Rattle.std.proofs.Math.Seq.{take-append_seam}
 use Rattle.std.proofs.lemmas.List.{take_all}
-use Rattle.phase_shared.specs.phase_core.Blocks.{StandForLists, one_each}
-use Rattle.phase_shared.specs.phase_base.Limits.{Limits}
-use Rattle.phase_shared.specs.phase_history.declared.refusal.SignalRefusal.{SignalRefusal}
+use Rattle.phase_core.specs.Blocks.{StandForLists, one_each}
+use Rattle.phase_base.specs.Limits.{Limits}
+use Rattle.phase_history.specs.declared.refusal.SignalRefusal.{SignalRefusal}
 use Rattle.phase_shared.specs.Blocks.{SignalsBlock, SignalsValues, entry_after_block}
 use Rattle.phase_shared.specs.Regs.{phaser_lock, phaser_limits}
 use Rattle.phase_shared.proofs.OneLists.{signals_values}

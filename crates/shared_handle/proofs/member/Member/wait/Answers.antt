@@ -1,7 +1,7 @@
 -- The registration waits.
 use Rattle.std.proofs.Common.{◌≡◌, sym, ap, subst, ◌∙◌}
-use Rattle.phase_shared.specs.phase_base.Limits.{Limits}
-use Rattle.phase_shared.specs.phase_history.declared.refusal.WaitRefusal.{WaitRefusal}
+use Rattle.phase_base.specs.Limits.{Limits}
+use Rattle.phase_history.specs.declared.refusal.WaitRefusal.{WaitRefusal}
 use Rattle.phase_shared.specs.Calls.{Waits}
 use Rattle.phase_shared.specs.Entries.{entry_after_wait}
 use Rattle.phase_shared.specs.Regs.{phaser_lock, phaser_limits}

@@ -1,7 +1,7 @@
 -- The registration waits for a block, and gets no more values than there are places.
 use Rattle.std.proofs.Common.{◌≡◌, sym, ap, subst, ◌∙◌}
-use Rattle.phase_shared.specs.phase_base.Limits.{Limits}
-use Rattle.phase_shared.specs.phase_history.declared.refusal.WaitRefusal.{WaitRefusal}
+use Rattle.phase_base.specs.Limits.{Limits}
+use Rattle.phase_history.specs.declared.refusal.WaitRefusal.{WaitRefusal}
 use Rattle.phase_shared.specs.Blocks.{WaitsBlock, entry_after_values}
 use Rattle.phase_shared.specs.Regs.{phaser_lock, phaser_limits}
 use Rattle.shared_handle.specs.Members.{Registration, as_registration, limits_by}

@@ -2,7 +2,7 @@
 use Rattle.std.proofs.Common.{◌≡◌, ◌+◌, ◌++◌, ◌∷◌, [], ℤ, List, length, take, get_or, pos, FitsSigned, w64, rules, arith, sym, ap, ◌∙◌}
 use Rattle.std.proofs.lemmas.Int.{to_z-of_z}
 use Rattle.std.proofs.lemmas.List.{append_assoc, length-drop, length-take, take_more, take_all}
-use Rattle.phase_any.proofs.phase_accum_lemmas.Parts.{AreSends-take}
+use Rattle.phase_accum.proofs.Parts.{AreSends-take}
 use Rattle.stream_job.specs.Streams.{InputKeeps}
 use Rattle.stream_job.proofs.Feeding.{keeps_more}
 use Rattle.stream_job.proofs.input.Input.take.Goals as goal

@@ -2,12 +2,12 @@
 use Rattle.std.proofs.Common.{◌≡◌, ◌<◌, ℕ, ◌∷◌, Bool, cond, true, false, Some, length, get_or, set, refl, sym, ap, subst, ◌∙◌, arith}
 use Rattle.std.proofs.lemmas.Option.{slice_get_read}
 use Rattle.std.specs.Vec.{vec_len}
-use Rattle.graph_lang.specs.graph_base.Graphs.{task_at}
-use Rattle.phase_any.specs.phase_base.declared.mode.Mode.{Mode}
-use Rattle.phase_any.specs.phase_history.Histories.{done_of}
-use Rattle.phase_any.specs.phase_history.declared.event.Event.TheVariants.{Registered, RegisteredNow}
+use Rattle.graph_base.specs.Graphs.{task_at}
+use Rattle.phase_base.specs.declared.mode.Mode.{Mode}
+use Rattle.phase_history.specs.Histories.{done_of}
+use Rattle.phase_history.specs.declared.event.Event.TheVariants.{Registered, RegisteredNow}
 use Rattle.graph_runs.specs.Turned.{with_at}
-use Rattle.stream_eval.specs.stream_lists.Jobs.{with_samples}
+use Rattle.stream_lists.specs.Jobs.{with_samples}
 use Rattle.stream_job.specs.Stepping.{LineHasBegun}
 use Rattle.stream_job.specs.Machines.{HasCores}
 use Rattle.stream_job.proofs.Setting.{bare_cores, on_ok}

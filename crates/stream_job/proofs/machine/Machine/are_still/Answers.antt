@@ -1,6 +1,6 @@
 -- The loop stops at the first task that would move.
 use Rattle.std.proofs.Common.{◌≡◌, ◌<◌, length, ap, ◌∙◌, arith, sym, true}
-use Rattle.stream_eval.proofs.stream_lists_lemmas.Basics.{one_more}
+use Rattle.stream_lists.proofs.Basics.{one_more}
 use Rattle.graph_runs.specs.Answers.{is_still}
 use Rattle.stream_job.proofs.Stalling.{rest_in_line}
 use Rattle.stream_job.proofs.Searching.{all_in_range, not_all_in_range}

@@ -1,7 +1,7 @@
 -- The task's state says how many samples it has signalled.
 use Rattle.std.proofs.Common.{◌≡◌, ◌<◌, length, drop, refl, ap, sym, ◌∙◌, arith}
 use Rattle.std.proofs.lemmas.Option.{slice_get_read}
-use Rattle.stream_eval.specs.stream_lists.Jobs.{samples_at}
+use Rattle.stream_lists.specs.Jobs.{samples_at}
 use Rattle.stream_job.proofs.machine.Machine.awaits.Goals as goal
 
 pub returns : goal.returns

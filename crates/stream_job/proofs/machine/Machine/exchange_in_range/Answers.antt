@@ -2,17 +2,17 @@
 use Rattle.std.proofs.Common.{rules, ◌≡◌, ◌<◌, ◌+◌, ◌≢◌, ◌∷◌, [], None, pos, SFits, w64, to_z, of_z, length, get_or, refl, sym, ap, subst, ◌∙◌, arith, to_z-of_z, List, ℤ}
 use Rattle.std.specs.Prelude.{Ok, slice_range}
 use Rattle.std.specs.List.{position_from}
-use Rattle.stream_eval.specs.stream_lists.Ranges.{is_too_big}
-use Rattle.phase_any.specs.phase_accum.declared.outcome.Outcome.{Outcome}
-use Rattle.phase_any.specs.phase_accum.declared.outcome.Outcome.TheVariants as outcome
-use Rattle.phase_any.specs.phase_core.Blocks.{after_in_range}
-use Rattle.phase_any.specs.phase_history.declared.got.GotBlock.TheVariants as block
-use Rattle.phase_any.specs.phase_history.Phases.{stream_of}
-use Rattle.graph_lang.specs.graph_base.Graphs.{task_at}
+use Rattle.stream_lists.specs.Ranges.{is_too_big}
+use Rattle.phase_accum.specs.declared.outcome.Outcome.{Outcome}
+use Rattle.phase_accum.specs.declared.outcome.Outcome.TheVariants as outcome
+use Rattle.phase_core.specs.Blocks.{after_in_range}
+use Rattle.phase_history.specs.declared.got.GotBlock.TheVariants as block
+use Rattle.phase_history.specs.Phases.{stream_of}
+use Rattle.graph_base.specs.Graphs.{task_at}
 use Rattle.graph_runs.specs.Moments.{Moment, limits_at, value_at}
 use Rattle.graph_runs.specs.TaskPlaces.{owed_after_exchange, exchange}
 use Rattle.graph_runs.specs.Turned.{with_at}
-use Rattle.stream_eval.specs.stream_lists.Jobs.{with_samples}
+use Rattle.stream_lists.specs.Jobs.{with_samples}
 use Rattle.stream_job.specs.Machines.{HasCores, IsMachineAt}
 use Rattle.stream_job.specs.declared.turned.Turned.TheVariants as turned
 use Rattle.stream_job.proofs.Exchanges.{blocked_exchange, exchange_some, exchanged_turn, never_ended, with_owed}

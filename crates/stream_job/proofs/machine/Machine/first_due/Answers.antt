@@ -1,6 +1,6 @@
 -- The loop goes through the children in their order, and stops at the first that is due.
 use Rattle.std.proofs.Common.{◌≡◌, ◌<◌, length, get_or, Some, ap, sym, subst, ◌∙◌, arith, true, false}
-use Rattle.stream_eval.proofs.stream_lists_lemmas.Basics.{one_more}
+use Rattle.stream_lists.proofs.Basics.{one_more}
 use Rattle.graph_runs.specs.Nexts.{is_due}
 use Rattle.stream_job.specs.Plans.{children_of}
 use Rattle.stream_job.proofs.ChildLists.{first_of_children, no_child_due, child_there, none_due_at}

@@ -1,6 +1,6 @@
 -- The loop stops at the first task that is live.
 use Rattle.std.proofs.Common.{◌≡◌, ◌<◌, length, ap, ◌∙◌, arith, false}
-use Rattle.stream_eval.proofs.stream_lists_lemmas.Basics.{one_more}
+use Rattle.stream_lists.proofs.Basics.{one_more}
 use Rattle.graph_runs.specs.Nexts.{is_live}
 use Rattle.stream_job.proofs.Searching.{any_in_range, none_in_range}
 use Rattle.stream_job.proofs.machine.Machine.has_live.Goals as goal

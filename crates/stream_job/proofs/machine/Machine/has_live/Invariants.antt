@@ -1,6 +1,6 @@
 -- None of the tasks so far is live.
 use Rattle.std.proofs.Common.{◌≡◌, ℕ, ℤ, List, ◌<◌, false}
-use Rattle.stream_eval.specs.stream_lists.Jobs.{with_samples}
+use Rattle.stream_lists.specs.Jobs.{with_samples}
 use Rattle.graph_runs.specs.Moments.{Moment}
 use Rattle.graph_runs.specs.Nexts.{is_live}
 use Rattle.stream_job.specs.Machines.{IsMachineAt}

@@ -1,7 +1,7 @@
 -- By how many values there are before one that is out of range.
 use Rattle.std.proofs.Common.{◌≡◌, ◌≤◌, None, Some, refl, sym, ap, ◌∙◌, arith}
 use Rattle.std.proofs.lemmas.Bool.{le-ltb}
-use Rattle.stream_eval.specs.stream_lists.Jobs.{with_samples}
+use Rattle.stream_lists.specs.Jobs.{with_samples}
 use Rattle.stream_job.specs.Places.{place_in_state}
 use Rattle.stream_job.proofs.HeldUp.{none_blocks, some_blocks}
 use Rattle.stream_job.proofs.machine.Machine.is_blocked_before.Goals as goal

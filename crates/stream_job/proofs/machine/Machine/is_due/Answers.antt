@@ -1,6 +1,6 @@
 -- A child that comes here is due where it is not registered.
 use Rattle.std.proofs.Common.{◌≡◌, ◌&&◌, is_some, true, ap, sym, ◌∙◌}
-use Rattle.graph_lang.specs.graph_base.Graphs.{task_at}
+use Rattle.graph_base.specs.Graphs.{task_at}
 use Rattle.graph_runs.specs.Nexts.{comes_by, first_missing}
 use Rattle.stream_job.proofs.machine.Machine.is_due.Goals as goal
 

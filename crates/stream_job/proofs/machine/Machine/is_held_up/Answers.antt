@@ -1,6 +1,6 @@
 -- A task that signals is held up before a value out of range, too.
 use Rattle.std.proofs.Common.{◌||◌, ℤ, List, ap, ◌∙◌}
-use Rattle.stream_eval.specs.stream_lists.Jobs.{with_samples}
+use Rattle.stream_lists.specs.Jobs.{with_samples}
 use Rattle.graph_runs.specs.Nexts.{signals}
 use Rattle.stream_job.specs.InRange.{is_blocked_before}
 use Rattle.stream_job.specs.Machines.{MayHaveCome, next_by}

@@ -1,11 +1,11 @@
 -- A task that has left a phaser, or has made the steps of `until`, makes no more; else its first
 -- input tells, or the samples that it awaits.
 use Rattle.std.proofs.Common.{◌≡◌, ◌||◌, length, get_or, ap, sym, ◌∙◌, arith, true, false}
-use Rattle.phase_any.specs.phase_base.Members.{entry_of}
-use Rattle.phase_any.specs.phase_history.Histories.{members_of}
-use Rattle.graph_lang.specs.graph_base.Graphs.{task_at, phaser_at, is_source}
-use Rattle.stream_eval.specs.stream_lists.Jobs.{with_samples}
-use Rattle.stream_eval.proofs.stream_lists_lemmas.Basics.{source_kind}
+use Rattle.phase_base.specs.Members.{entry_of}
+use Rattle.phase_history.specs.Histories.{members_of}
+use Rattle.graph_base.specs.Graphs.{task_at, phaser_at, is_source}
+use Rattle.stream_lists.specs.Jobs.{with_samples}
+use Rattle.stream_lists.proofs.Basics.{source_kind}
 use Rattle.graph_runs.specs.Moments.{first_input, input_at, limits_at}
 use Rattle.graph_runs.specs.Nexts.{has_input_ended}
 use Rattle.graph_runs.proofs.Signalling.{live-is}

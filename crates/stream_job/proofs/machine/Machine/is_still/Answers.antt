@@ -1,6 +1,6 @@
 -- A live task's turn is blocked where its next call is.
 use Rattle.std.proofs.Common.{ℤ, List, true, cond, ap, ◌∙◌}
-use Rattle.stream_eval.specs.stream_lists.Jobs.{with_samples}
+use Rattle.stream_lists.specs.Jobs.{with_samples}
 use Rattle.graph_runs.specs.Nexts.{next_of}
 use Rattle.stream_job.specs.Stepping.{would_block}
 use Rattle.stream_job.specs.Machines.{MayHaveCome, next_by}

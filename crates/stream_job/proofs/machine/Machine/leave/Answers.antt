@@ -1,12 +1,12 @@
 -- The task leaves the phaser that stands behind those that it has left.
 use Rattle.std.proofs.Common.{◌≡◌, ◌<◌, ◌≤◌, ◌+◌, cond, length, get_or, ap, sym, subst, ◌∙◌, arith}
 use Rattle.std.proofs.lemmas.Bool.{lt-ltb, le-ltb}
-use Rattle.graph_lang.specs.graph_base.Graphs.{task_at}
-use Rattle.graph_lang.specs.graph_base.Registrations.{registrations_of, no_registration}
+use Rattle.graph_base.specs.Graphs.{task_at}
+use Rattle.graph_base.specs.Registrations.{registrations_of, no_registration}
 use Rattle.graph_runs.specs.Nexts.{registrations_at}
 use Rattle.graph_runs.specs.TaskPlaces.{registration_at}
 use Rattle.graph_runs.specs.Answers as answers
-use Rattle.stream_eval.specs.stream_lists.Jobs.{with_samples}
+use Rattle.stream_lists.specs.Jobs.{with_samples}
 use Rattle.stream_job.proofs.Setting.{bare_cores, full_cores}
 use Rattle.stream_job.specs.declared.turned.Turned.TheVariants.{Moved, Ended}
 use Rattle.stream_job.proofs.Lively.{leaves_now, few_left, state_read, state_there}

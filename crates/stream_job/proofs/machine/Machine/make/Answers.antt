@@ -1,6 +1,6 @@
 -- No turn is refused, and turns lead to moments that are reached.
 use Rattle.std.proofs.Common.{◌≡◌, ◌≢◌, ℤ, List, ap, ◌∙◌, sym, subst}
-use Rattle.stream_eval.specs.stream_lists.Jobs.{with_samples}
+use Rattle.stream_lists.specs.Jobs.{with_samples}
 use Rattle.graph_runs.proofs.Signalling.{live-is}
 use Rattle.graph_runs.specs.Nexts.{is_not_live}
 use Rattle.stream_job.specs.Stepping.{IsNextIn, MayDo}

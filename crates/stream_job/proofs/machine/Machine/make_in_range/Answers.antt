@@ -1,6 +1,6 @@
 -- What a task does next is a turn that tells no value out of range, or one that stops before it.
 use Rattle.std.proofs.Common.{◌≡◌, ◌≢◌, ℤ, List, ap, ◌∙◌, sym, subst}
-use Rattle.stream_eval.specs.stream_lists.Jobs.{with_samples}
+use Rattle.stream_lists.specs.Jobs.{with_samples}
 use Rattle.graph_runs.proofs.Signalling.{live-is}
 use Rattle.graph_runs.specs.Nexts.{is_not_live}
 use Rattle.stream_job.specs.InRange.{HasGone, IsNextGood, went_by}

@@ -1,6 +1,6 @@
 -- The parts are those of the opening, which is reached.
 use Rattle.std.proofs.Common.{◌≡◌, length, subst, ◌∙◌, arith}
-use Rattle.graph_lang.specs.graph_base.TaskLines.{IsGraph}
+use Rattle.graph_base.specs.TaskLines.{IsGraph}
 use Rattle.graph_runs.specs.Beginnings.{opening}
 use Rattle.graph_runs.proofs.AtOpening.{opening_has_begun}
 use Rattle.graph_runs.proofs.Reaching.{begun_reached}

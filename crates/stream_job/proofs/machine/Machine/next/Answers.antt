@@ -1,7 +1,7 @@
 -- By the state of the task, which was read at each look.
 use Rattle.std.proofs.Common.{◌≡◌, ℤ, List, ◌<◌, length, true, ap, ◌∙◌, sym, arith}
 use Rattle.std.proofs.lemmas.Bool.{eqb-true, eqb-false}
-use Rattle.stream_eval.specs.stream_lists.Jobs.{with_samples}
+use Rattle.stream_lists.specs.Jobs.{with_samples}
 use Rattle.graph_runs.specs.Moments.{Moment}
 use Rattle.graph_runs.specs.Nexts.{is_live, next_of}
 use Rattle.graph_runs.specs.Steps.{owed_of}

@@ -3,14 +3,14 @@
 use Rattle.std.proofs.Common.{◌≡◌, ◌≢◌, ℕ, ℤ, List, ◌<◌, ◌∷◌, None, length, get_or, map, set, refl, sym, ap, subst, ◌∙◌, arith}
 use Rattle.std.specs.Prelude.{Ok}
 use Rattle.std.specs.List.{position_from}
-use Rattle.phase_any.specs.phase_core.Blocks.{after_in_range}
-use Rattle.phase_any.specs.phase_history.declared.event.Event.TheVariants.{Waited}
-use Rattle.phase_any.specs.phase_history.declared.got.GotBlock.TheVariants as block
-use Rattle.phase_any.specs.phase_history.Phases.{stream_of}
-use Rattle.graph_lang.specs.graph_base.Graphs.{task_at}
-use Rattle.stream_eval.specs.stream_lists.Jobs.{with_samples}
-use Rattle.stream_eval.specs.stream_lists.Lists.{number}
-use Rattle.stream_eval.specs.stream_lists.Ranges.{is_too_big}
+use Rattle.phase_core.specs.Blocks.{after_in_range}
+use Rattle.phase_history.specs.declared.event.Event.TheVariants.{Waited}
+use Rattle.phase_history.specs.declared.got.GotBlock.TheVariants as block
+use Rattle.phase_history.specs.Phases.{stream_of}
+use Rattle.graph_base.specs.Graphs.{task_at}
+use Rattle.stream_lists.specs.Jobs.{with_samples}
+use Rattle.stream_lists.specs.Lists.{number}
+use Rattle.stream_lists.specs.Ranges.{is_too_big}
 use Rattle.graph_runs.specs.Moments.{Moment, value_at}
 use Rattle.graph_runs.specs.TaskEvents.{after_turn, first_wait}
 use Rattle.graph_runs.specs.Turned.{with_at}

@@ -1,8 +1,8 @@
 -- By the state that was read.
 use Rattle.std.proofs.Common.{◌≡◌, Some, slice_get, sym, ap, subst, ◌∙◌, arith}
 use Rattle.std.proofs.lemmas.Option.{same_Some}
-use Rattle.stream_eval.specs.stream_lists.Jobs.{with_samples}
-use Rattle.graph_lang.specs.graph_base.Graphs.{task_at}
+use Rattle.stream_lists.specs.Jobs.{with_samples}
+use Rattle.graph_base.specs.Graphs.{task_at}
 use Rattle.graph_runs.specs.Moments.{first_input}
 use Rattle.graph_runs.specs.Steps.{owed_of}
 use Rattle.graph_runs.specs.TaskPlaces.{nothing}

@@ -1,10 +1,10 @@
 -- The value that the state owes is signalled as the number that stands at the registration of its
 -- output.
 use Rattle.std.proofs.Common.{rules, ◌≡◌, ◌<◌, ◌*◌, [], ◌∷◌, SFits, w64, length, get_or, true, false, refl, sym, ap, subst, ◌∙◌, arith, to_z-of_z}
-use Rattle.phase_any.specs.phase_accum.Sends.{AreSends}
+use Rattle.phase_accum.specs.Sends.{AreSends}
 use Rattle.std.specs.Prelude.{Ok}
 use Rattle.std.proofs.lemmas.Option.{same_Some}
-use Rattle.stream_eval.specs.stream_lists.Jobs.{with_samples}
+use Rattle.stream_lists.specs.Jobs.{with_samples}
 use Rattle.graph_runs.specs.TaskEvents.{after_turn, signal}
 use Rattle.graph_runs.specs.declared.owed.Owed.TheVariants as code
 use Rattle.stream_job.specs.Places.{place_in_state}

@@ -1,13 +1,13 @@
 -- The child takes the next number on the phaser of its first registration that is missing.
 use Rattle.std.proofs.Common.{ℕ, ◌≡◌, ◌<◌, ◌≤◌, ◌+◌, [], ◌∷◌, ◌++◌, length, get_or, sym, ap, subst, ◌∙◌, arith, List, ℤ}
-use Rattle.graph_lang.specs.graph_base.Graphs.{task_at, phaser_at}
-use Rattle.graph_lang.specs.graph_base.Registrations.{registrations_of, no_registration}
-use Rattle.graph_lang.specs.graph_base.declared.registration.Registration.{Registration}
+use Rattle.graph_base.specs.Graphs.{task_at, phaser_at}
+use Rattle.graph_base.specs.Registrations.{registrations_of, no_registration}
+use Rattle.graph_base.specs.declared.registration.Registration.{Registration}
 use Rattle.graph_runs.specs.Moments.{limits_at}
 use Rattle.graph_runs.specs.Nexts.{registrations_at, registers}
 use Rattle.graph_runs.specs.TaskPlaces.{registration_at}
-use Rattle.phase_any.specs.phase_history.Histories.{greatest_used}
-use Rattle.stream_eval.specs.stream_lists.Jobs.{with_samples}
+use Rattle.phase_history.specs.Histories.{greatest_used}
+use Rattle.stream_lists.specs.Jobs.{with_samples}
 use Rattle.stream_job.specs.Stepping.{IsNextIn}
 use Rattle.stream_job.specs.declared.task_state.TaskState.{TaskState}
 use Rattle.stream_job.proofs.Lively.{live_next}

@@ -1,8 +1,8 @@
 -- The core of the phaser is set, and the others stay.
 use Rattle.std.proofs.Common.{◌∷◌, ap, ◌∙◌, arith}
 use Rattle.std.specs.Vec.{with_item}
-use Rattle.phase_any.specs.phase_history.declared.event.Event.TheVariants.{RegisteredNow}
-use Rattle.graph_lang.specs.graph_base.Graphs.{phaser_at}
+use Rattle.phase_history.specs.declared.event.Event.TheVariants.{RegisteredNow}
+use Rattle.graph_base.specs.Graphs.{phaser_at}
 use Rattle.graph_runs.specs.Moments.{limits_at}
 use Rattle.stream_job.proofs.Setting.{set_core, lent_core, if_ok, on_ok, on_err, if_err, same_item}
 use Rattle.stream_job.proofs.machine.Machine.register_now_on.Goals as goal

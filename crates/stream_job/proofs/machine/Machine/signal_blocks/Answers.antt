@@ -1,7 +1,7 @@
 -- By the number of the output's registration.
 use Rattle.std.proofs.Common.{◌≡◌, length, get_or, refl, ap, sym, ◌∙◌, arith}
-use Rattle.graph_lang.specs.graph_base.Graphs.{phaser_at}
-use Rattle.stream_eval.specs.stream_lists.Jobs.{with_samples}
+use Rattle.graph_base.specs.Graphs.{phaser_at}
+use Rattle.stream_lists.specs.Jobs.{with_samples}
 use Rattle.graph_runs.specs.Moments.{limits_at}
 use Rattle.graph_runs.specs.Nexts.{number_on}
 use Rattle.graph_runs.specs.Answers.{output_at}

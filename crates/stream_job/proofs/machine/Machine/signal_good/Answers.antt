@@ -1,18 +1,17 @@
 -- What is made is signalled up to the first value that is out of range.
 use Rattle.std.proofs.Common.{ℕ, ◌≡◌, ◌≢◌, true, false, subst, ◌≤◌, ◌+◌, ◌-◌, length, get_or, refl, sym, ap, ◌∙◌, arith, List, ℤ}
-use Rattle.std.specs.Prelude.{ℤ}
-use Rattle.graph_lang.specs.graph_base.Graphs.{task_at}
+use Rattle.std.specs.Prelude.{ℤ, Some, drop}
+use Rattle.graph_base.specs.Graphs.{task_at}
 use Rattle.graph_runs.specs.Moments.{Moment}
 use Rattle.graph_runs.specs.Nexts.{signals}
-use Rattle.stream_eval.specs.stream_lists.Jobs.{with_samples}
+use Rattle.stream_lists.specs.Jobs.{with_samples}
 use Rattle.stream_job.specs.Stepping.{IsNextIn}
 use Rattle.stream_job.specs.Machines.{IsMachineAt}
 use Rattle.stream_job.proofs.Lively.{state_read, state_there}
 use Rattle.stream_job.proofs.Setting.{read_same, set_read, bare_cores, full_cores}
-use Rattle.std.specs.Prelude.{Some, drop}
 use Rattle.std.proofs.lemmas.Bool.{eq-eqb}
 use Rattle.std.proofs.lemmas.Option.{same_Some}
-use Rattle.graph_lang.specs.graph_base.declared.place.Place.TheVariants as place
+use Rattle.graph_base.specs.declared.place.Place.TheVariants as place
 use Rattle.graph_runs.specs.TaskPlaces.{registration_of_output}
 use Rattle.stream_job.proofs.GoodSignals.{ArePut, GoodPart, are_put, owes_out, part_moved, part_sends, part_stayed, put_good, put_none, vec_none, with_made}
 use Rattle.stream_job.proofs.Signals.{HasMade, OwesHere, has_made, made_begun, made_few, signals_at}

@@ -5,8 +5,8 @@ use Rattle.std.proofs.lemmas.Option.{same_Some}
 use Rattle.graph_runs.specs.Moments.{Moment}
 use Rattle.graph_runs.specs.Nexts.{signals}
 use Rattle.graph_runs.specs.declared.owed.Owed.TheVariants as code
-use Rattle.stream_eval.specs.stream_lists.Jobs.{with_samples}
-use Rattle.graph_lang.specs.graph_base.declared.place.Place.TheVariants as place
+use Rattle.stream_lists.specs.Jobs.{with_samples}
+use Rattle.graph_base.specs.declared.place.Place.TheVariants as place
 use Rattle.stream_job.specs.InRange.{HasGone}
 use Rattle.stream_job.specs.Stepping.{IsNextIn}
 use Rattle.stream_job.specs.Machines.{IsMachineAt}

@@ -3,12 +3,12 @@ use Rattle.std.proofs.Common.{ℕ, ◌≡◌, ◌<◌, ◌≤◌, ◌+◌, ◌-�
 use Rattle.std.specs.Prelude.{Ok, Result, ℤ}
 use Rattle.std.specs.List.{position_from}
 use Rattle.std.proofs.lemmas.List.{length-map}
-use Rattle.graph_lang.specs.stream_filters.declared.fault.TooBigValue.{TooBigValue}
-use Rattle.graph_lang.specs.graph_base.Graphs.{task_at}
+use Rattle.stream_filters.specs.declared.fault.TooBigValue.{TooBigValue}
+use Rattle.graph_base.specs.Graphs.{task_at}
 use Rattle.graph_runs.specs.Moments.{Moment}
 use Rattle.graph_runs.specs.Nexts.{signals}
 use Rattle.graph_runs.specs.TaskEvents.{signal}
-use Rattle.stream_eval.specs.stream_lists.Jobs.{with_samples}
+use Rattle.stream_lists.specs.Jobs.{with_samples}
 use Rattle.stream_job.specs.Stepping.{is_value_out, IsNextIn}
 use Rattle.stream_job.specs.Machines.{IsMachineAt}
 use Rattle.stream_job.specs.Places.{owed_in}

@@ -1,8 +1,8 @@
 -- The next samples are signalled as the number that stands at the registration of the output.
 use Rattle.std.proofs.Common.{◌≡◌, ◌+◌, ℕ, ℤ, List, Some, length, take, drop, get_or, slice_get, sym, ap, ◌∙◌, arith}
 use Rattle.std.specs.Prelude.{min}
-use Rattle.graph_lang.specs.graph_base.Graphs.{task_at}
-use Rattle.stream_eval.specs.stream_lists.Jobs.{Job, samples_at, with_samples}
+use Rattle.graph_base.specs.Graphs.{task_at}
+use Rattle.stream_lists.specs.Jobs.{Job, samples_at, with_samples}
 use Rattle.graph_runs.specs.Moments.{Moment}
 use Rattle.graph_runs.specs.NextBlocks.{block_up_to}
 use Rattle.graph_runs.specs.Nexts.{samples}

@@ -1,7 +1,7 @@
 -- The core of the phaser is set, and the others stay.
 use Rattle.std.proofs.Common.{◌≡◌, map, ap, ◌∙◌, subst}
-use Rattle.phase_any.specs.phase_history.Replies.{after_signal}
-use Rattle.graph_lang.specs.graph_base.Graphs.{phaser_at}
+use Rattle.phase_history.specs.Replies.{after_signal}
+use Rattle.graph_base.specs.Graphs.{phaser_at}
 use Rattle.graph_runs.specs.Moments.{one, limits_at}
 use Rattle.phase_any.specs.Phasers.{PhaserStandsFor}
 use Rattle.stream_job.proofs.Setting.{set_core, lent_core}

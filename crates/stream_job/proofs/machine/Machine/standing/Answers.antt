@@ -1,11 +1,11 @@
 -- By the number of the task's registration.
 use Rattle.std.proofs.Common.{◌≡◌, ◌<◌, length, get_or, ap, sym, subst, ◌∙◌, arith}
-use Rattle.graph_lang.specs.graph_base.Graphs.{task_at, phaser_at}
-use Rattle.graph_lang.specs.graph_base.Registrations.{registrations_of, no_registration}
-use Rattle.graph_lang.specs.graph_base.declared.registration.Registration.{Registration}
-use Rattle.phase_any.specs.phase_base.Members.{entry_of}
-use Rattle.phase_any.specs.phase_history.Histories.{members_of}
-use Rattle.stream_eval.specs.stream_lists.Jobs.{with_samples}
+use Rattle.graph_base.specs.Graphs.{task_at, phaser_at}
+use Rattle.graph_base.specs.Registrations.{registrations_of, no_registration}
+use Rattle.graph_base.specs.declared.registration.Registration.{Registration}
+use Rattle.phase_base.specs.Members.{entry_of}
+use Rattle.phase_history.specs.Histories.{members_of}
+use Rattle.stream_lists.specs.Jobs.{with_samples}
 use Rattle.graph_runs.specs.Moments.{limits_at}
 use Rattle.graph_runs.specs.TaskPlaces.{registration_at}
 use Rattle.stream_job.specs.Places.{place_in_state}

@@ -1,6 +1,6 @@
 -- By the call that each kind of step makes.
 use Rattle.std.proofs.Common.{ap, ◌∙◌}
-use Rattle.stream_eval.specs.stream_lists.Jobs.{with_samples}
+use Rattle.stream_lists.specs.Jobs.{with_samples}
 use Rattle.stream_job.specs.Stepping.{would_block}
 use Rattle.stream_job.specs.Machines.{next_by}
 use Rattle.stream_job.proofs.Stalling.{first_wait_blocks, exchange_blocks}

@@ -1,6 +1,6 @@
 -- Values in range are signalled.
 use Rattle.std.proofs.Common.{ap, ◌∙◌, arith}
-use Rattle.stream_eval.specs.stream_lists.Jobs.{with_samples}
+use Rattle.stream_lists.specs.Jobs.{with_samples}
 use Rattle.graph_runs.specs.Answers.{output_at}
 use Rattle.graph_runs.specs.Moments.{limits_at}
 use Rattle.graph_runs.specs.Nexts.{number_on}

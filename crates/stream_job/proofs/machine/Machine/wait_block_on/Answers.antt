@@ -2,8 +2,8 @@
 use Rattle.std.proofs.Common.{◌≡◌, length, drop, subst, ◌∙◌, arith}
 use Rattle.std.proofs.lemmas.List.{length-take-le, take_at}
 use Rattle.stream_job.proofs.Setting.{set_core, lent_core}
-use Rattle.phase_any.specs.phase_history.Replies.{after_wait_block, wait_block_reply}
-use Rattle.graph_lang.specs.graph_base.Graphs.{phaser_at}
+use Rattle.phase_history.specs.Replies.{after_wait_block, wait_block_reply}
+use Rattle.graph_base.specs.Graphs.{phaser_at}
 use Rattle.graph_runs.specs.Moments.{limits_at}
 use Rattle.stream_job.proofs.machine.Machine.wait_block_on.Goals as goal
 

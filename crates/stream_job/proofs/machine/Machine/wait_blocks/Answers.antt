@@ -1,7 +1,7 @@
 -- By the number of the input's registration.
 use Rattle.std.proofs.Common.{◌≡◌, length, get_or, ap, sym, ◌∙◌, arith}
-use Rattle.graph_lang.specs.graph_base.Graphs.{task_at, phaser_at}
-use Rattle.stream_eval.specs.stream_lists.Jobs.{with_samples}
+use Rattle.graph_base.specs.Graphs.{task_at, phaser_at}
+use Rattle.stream_lists.specs.Jobs.{with_samples}
 use Rattle.graph_runs.specs.Moments.{limits_at, input_at}
 use Rattle.graph_runs.specs.Nexts.{number_on}
 use Rattle.stream_job.specs.Places.{place_in_state}

@@ -1,12 +1,12 @@
 -- A peer waits as the number that stands at its second registration.
 use Rattle.std.proofs.Common.{rules, SFits, w64, to_z, of_z, ◌<◌, length, get_or, ap, subst, ◌∙◌, arith, to_z-of_z}
 use Rattle.std.specs.Prelude.{Ok}
-use Rattle.phase_any.specs.phase_base.declared.limits.TheConstants.{PHASES_MAX}
-use Rattle.phase_any.specs.phase_history.Replies.{after_wait}
-use Rattle.graph_lang.specs.graph_base.Graphs.{task_at}
+use Rattle.phase_base.specs.declared.limits.TheConstants.{PHASES_MAX}
+use Rattle.phase_history.specs.Replies.{after_wait}
+use Rattle.graph_base.specs.Graphs.{task_at}
 use Rattle.graph_runs.specs.TaskPlaces.{owed_after_exchange, exchange}
 use Rattle.graph_runs.specs.Turned.{with_at}
-use Rattle.stream_eval.specs.stream_lists.Jobs.{with_samples}
+use Rattle.stream_lists.specs.Jobs.{with_samples}
 use Rattle.stream_job.specs.Machines.{HasCores}
 use Rattle.stream_job.proofs.Lively.{state_read, state_there}
 use Rattle.stream_job.proofs.Setting.{set_read, bare_cores, full_cores}

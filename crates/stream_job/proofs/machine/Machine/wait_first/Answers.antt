@@ -4,17 +4,17 @@ use Rattle.std.proofs.Common.{◌≡◌, ◌<◌, ◌≤◌, ◌+◌, ◌*◌, �
 use Rattle.std.proofs.lemmas.List.{length-take}
 use Rattle.std.specs.Prelude.{Ok, IfSome}
 use Rattle.std.specs.List.{All}
-use Rattle.phase_any.specs.phase_base.declared.limits.TheConstants.{PHASES_MAX}
-use Rattle.phase_any.specs.phase_history.declared.event.Event.TheVariants.{Waited}
-use Rattle.phase_any.specs.phase_history.Histories.{done_of}
-use Rattle.phase_any.specs.phase_history.Replies.{after_wait_block}
-use Rattle.graph_lang.specs.graph_base.Graphs.{task_at}
-use Rattle.stream_eval.specs.stream_lists.Lists.{number}
+use Rattle.phase_base.specs.declared.limits.TheConstants.{PHASES_MAX}
+use Rattle.phase_history.specs.declared.event.Event.TheVariants.{Waited}
+use Rattle.phase_history.specs.Histories.{done_of}
+use Rattle.phase_history.specs.Replies.{after_wait_block}
+use Rattle.graph_base.specs.Graphs.{task_at}
+use Rattle.stream_lists.specs.Lists.{number}
 use Rattle.graph_runs.specs.Moments.{Moment}
 use Rattle.graph_runs.specs.Nexts.{waits}
 use Rattle.graph_runs.specs.Steps.{HasFilter}
 use Rattle.graph_runs.specs.Turned.{with_at}
-use Rattle.stream_eval.specs.stream_lists.Jobs.{with_samples}
+use Rattle.stream_lists.specs.Jobs.{with_samples}
 use Rattle.stream_job.specs.Stepping.{with_more, HasRoomIn, IsNextIn}
 use Rattle.stream_job.specs.Places.{StateHasTaken}
 use Rattle.stream_job.specs.SinkLines.{kept_of}

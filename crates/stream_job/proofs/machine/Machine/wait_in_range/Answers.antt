@@ -4,18 +4,18 @@ use Rattle.std.proofs.Common.{ℕ, ◌≡◌, ◌≢◌, ◌<◌, ◌≤◌, ◌
 use Rattle.std.proofs.lemmas.List.{length-take}
 use Rattle.std.specs.Prelude.{Ok, IfSome}
 use Rattle.std.specs.List.{All}
-use Rattle.phase_any.specs.phase_history.declared.event.Event.TheVariants.{Waited}
-use Rattle.phase_any.specs.phase_history.declared.got.GotBlock.TheVariants as block
-use Rattle.phase_any.specs.phase_core.Blocks.{after_in_range}
-use Rattle.phase_any.specs.phase_history.Phases.{stream_of}
-use Rattle.phase_any.specs.phase_history.Replies.{wait_block_reply}
-use Rattle.graph_lang.specs.graph_base.Graphs.{task_at}
-use Rattle.stream_eval.specs.stream_lists.Lists.{number}
+use Rattle.phase_history.specs.declared.event.Event.TheVariants.{Waited}
+use Rattle.phase_history.specs.declared.got.GotBlock.TheVariants as block
+use Rattle.phase_core.specs.Blocks.{after_in_range}
+use Rattle.phase_history.specs.Phases.{stream_of}
+use Rattle.phase_history.specs.Replies.{wait_block_reply}
+use Rattle.graph_base.specs.Graphs.{task_at}
+use Rattle.stream_lists.specs.Lists.{number}
 use Rattle.graph_runs.specs.Moments.{Moment, limits_at, value_at}
 use Rattle.graph_runs.specs.Nexts.{waits}
 use Rattle.graph_runs.specs.Steps.{HasFilter}
 use Rattle.graph_runs.specs.Turned.{with_at}
-use Rattle.stream_eval.specs.stream_lists.Jobs.{with_samples}
+use Rattle.stream_lists.specs.Jobs.{with_samples}
 use Rattle.stream_job.specs.InRange.{IsNextGood}
 use Rattle.stream_job.specs.Stepping.{with_more, HasRoomIn, IsNextIn}
 use Rattle.stream_job.specs.Places.{StateHasTaken}

@@ -2,10 +2,10 @@
 use Rattle.std.proofs.Common.{◌≡◌, ◌≤◌, length, drop, ap, subst, ◌∙◌, arith}
 use Rattle.std.proofs.lemmas.List.{length-take-le, take-append-le}
 use Rattle.std.specs.Vec.{with_item}
-use Rattle.phase_any.specs.phase_core.Blocks.{after_in_range, before_too_big}
-use Rattle.phase_any.specs.phase_history.Phases.{stream_of}
-use Rattle.phase_any.specs.phase_history.Replies.{wait_block_reply}
-use Rattle.graph_lang.specs.graph_base.Graphs.{phaser_at}
+use Rattle.phase_core.specs.Blocks.{after_in_range, before_too_big}
+use Rattle.phase_history.specs.Phases.{stream_of}
+use Rattle.phase_history.specs.Replies.{wait_block_reply}
+use Rattle.graph_base.specs.Graphs.{phaser_at}
 use Rattle.graph_runs.specs.Moments.{limits_at, value_at}
 use Rattle.stream_job.proofs.Setting.{set_core, lent_core, on_err, same_item}
 use Rattle.stream_job.proofs.machine.Machine.wait_in_range_on.Goals as goal

@@ -1,8 +1,8 @@
 -- The core of the phaser is set, and the others stay.
 use Rattle.std.proofs.Common.{refl, ◌<◌, ◌≡◌, length, arith}
 use Rattle.std.proofs.lemmas.Option.{slice_get_read}
-use Rattle.phase_any.specs.phase_history.Replies.{after_wait}
-use Rattle.graph_lang.specs.graph_base.Graphs.{phaser_at}
+use Rattle.phase_history.specs.Replies.{after_wait}
+use Rattle.graph_base.specs.Graphs.{phaser_at}
 use Rattle.graph_runs.specs.Moments.{limits_at}
 use Rattle.stream_job.proofs.Setting.{set_core}
 use Rattle.stream_job.proofs.machine.Machine.wait_on.Goals as goal

@@ -2,7 +2,7 @@
 use Rattle.std.proofs.Common.{◌≡◌, ℕ, ◌-◌, ◌≤◌, length, refl, ap, sym, ◌∙◌, arith}
 use Rattle.std.specs.List.{fold, range_with_len}
 use Rattle.std.proofs.lemmas.Option.{slice_get_read}
-use Rattle.graph_lang.specs.graph_base.Graphs.{task_at}
+use Rattle.graph_base.specs.Graphs.{task_at}
 use Rattle.graph_runs.specs.NextBlocks.{child_allows, until_allows}
 use Rattle.stream_job.specs.Plans.{IsTaskPlan}
 use Rattle.stream_job.proofs.Blocks.{all-allow}

@@ -2,7 +2,7 @@
 use Rattle.std.proofs.Common.{ℕ, ◌<◌, length, get_or, ap, sym, subst, ◌∙◌, arith}
 use Rattle.std.proofs.lemmas.List.{take_all}
 use Rattle.std.specs.List.{fold}
-use Rattle.graph_lang.specs.graph_base.Graphs.{task_at}
+use Rattle.graph_base.specs.Graphs.{task_at}
 use Rattle.graph_runs.specs.NextBlocks.{child_allows}
 use Rattle.stream_job.specs.Plans.{children_of}
 use Rattle.stream_job.proofs.Blocks.{children-allow}

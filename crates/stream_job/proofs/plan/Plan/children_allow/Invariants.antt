@@ -1,7 +1,7 @@
 -- What the first children allow.
 use Rattle.std.proofs.Common.{◌≡◌, take}
 use Rattle.std.specs.List.{fold}
-use Rattle.graph_lang.specs.graph_base.Graphs.{task_at}
+use Rattle.graph_base.specs.Graphs.{task_at}
 use Rattle.graph_runs.specs.NextBlocks.{child_allows}
 use Rattle.stream_job.specs.Plans.{children_of}
 use Rattle.stream_job.proofs.plan.Plan.children_allow.Given as goal

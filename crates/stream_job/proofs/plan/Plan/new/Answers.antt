@@ -2,8 +2,8 @@
 use Rattle.std.proofs.Common.{◌≡◌, [], ◌∷◌, ◌++◌, length, sym, ap, subst, ◌∙◌, arith}
 use Rattle.std.specs.Prelude.{slice_get}
 use Rattle.std.proofs.lemmas.List.{length-append}
-use Rattle.stream_eval.proofs.stream_lists_lemmas.Basics.{each-push}
-use Rattle.graph_lang.specs.graph_base.Graphs.{Graph, source_number}
+use Rattle.stream_lists.proofs.Basics.{each-push}
+use Rattle.graph_base.specs.Graphs.{Graph, source_number}
 use Rattle.stream_job.specs.Plans.{IsTaskPlan}
 use Rattle.stream_job.specs.declared.plan.TaskPlan.{TaskPlan}
 use Rattle.stream_job.proofs.plan.Plan.new.Goals as goal

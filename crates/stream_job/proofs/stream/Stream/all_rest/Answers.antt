@@ -1,8 +1,8 @@
 -- The loop stops at the first task that does not rest.
 use Rattle.std.proofs.Common.{◌≡◌, ◌<◌, length, ap, ◌∙◌, arith, subst, true}
-use Rattle.stream_eval.specs.stream_lists.Jobs.{with_samples}
-use Rattle.stream_eval.proofs.stream_lists_lemmas.Basics.{one_more}
-use Rattle.graph_lang.specs.graph_base.Graphs.{Graph}
+use Rattle.stream_lists.specs.Jobs.{with_samples}
+use Rattle.stream_lists.proofs.Basics.{one_more}
+use Rattle.graph_base.specs.Graphs.{Graph}
 use Rattle.stream_job.specs.Streams.{StreamState, ended_at, rests}
 use Rattle.stream_job.proofs.Searching.{all_in_range, not_all_in_range}
 use Rattle.stream_job.proofs.stream.Stream.all_rest.Goals as goal

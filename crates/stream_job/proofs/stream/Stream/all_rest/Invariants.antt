@@ -1,6 +1,6 @@
 -- The tasks so far rest.
 use Rattle.std.proofs.Common.{◌≡◌, ℕ, ℤ, List, ◌<◌, true}
-use Rattle.stream_eval.specs.stream_lists.Jobs.{with_samples}
+use Rattle.stream_lists.specs.Jobs.{with_samples}
 use Rattle.graph_runs.specs.Moments.{Moment}
 use Rattle.stream_job.specs.Streams.{IsStreamAt, ended_at, rests}
 use Rattle.stream_job.proofs.stream.Stream.all_rest.Given as goal

@@ -3,8 +3,8 @@ use Rattle.std.proofs.Common.{◌≡◌, ◌<◌, ℕ, ℤ, true, false, List, S
 use Rattle.std.specs.Prelude.{◌||◌, is_some}
 use Rattle.std.proofs.lemmas.Option.{slice_get_read}
 use Rattle.std.proofs.lemmas.Bool.{or_right}
-use Rattle.graph_lang.specs.graph_base.Graphs.{sources_of}
-use Rattle.stream_eval.specs.stream_lists.Jobs.{samples_in}
+use Rattle.graph_base.specs.Graphs.{sources_of}
+use Rattle.stream_lists.specs.Jobs.{samples_in}
 use Rattle.graph_runs.specs.Moments.{Moment}
 use Rattle.stream_job.specs.Streams.{StreamState, FeedTakes, IsInputOf, IsStreamAt, has_ended, fed}
 use Rattle.stream_job.proofs.Feeding.{ended_found, ended_stays}

@@ -1,9 +1,9 @@
 -- A filter makes no more steps than one event of it signals.
 use Rattle.std.proofs.Common.{◌≡◌, ℕ, ◌<◌, ◌≤◌, length, sym, ap, subst, ◌∙◌, arith}
-use Rattle.graph_lang.specs.graph_base.declared.line.Kind.TheVariants.{Fir}
-use Rattle.graph_lang.specs.graph_base.Graphs.{phaser_at, task_at}
+use Rattle.graph_base.specs.declared.line.Kind.TheVariants.{Fir}
+use Rattle.graph_base.specs.Graphs.{phaser_at, task_at}
 use Rattle.graph_runs.specs.Answers.{output_at}
-use Rattle.stream_eval.specs.stream_lists.Jobs.{with_samples}
+use Rattle.stream_lists.specs.Jobs.{with_samples}
 use Rattle.stream_job.specs.Machines.{most_in}
 use Rattle.stream_job.specs.Stepping.{MayStep}
 use Rattle.stream_job.specs.Streams.{StreamState}

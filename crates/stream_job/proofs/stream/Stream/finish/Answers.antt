@@ -1,6 +1,6 @@
 -- The input of the source has ended, and all else stays.
 use Rattle.std.proofs.Common.{◌≡◌, ◌<◌, ℕ, ℤ, List, Some, slice_get, set, refl, sym, subst}
-use Rattle.graph_lang.specs.graph_base.Graphs.{sources_of}
+use Rattle.graph_base.specs.Graphs.{sources_of}
 use Rattle.graph_runs.specs.Moments.{Moment}
 use Rattle.stream_job.specs.Streams.{StreamState, IsStreamAt, has_ended, ended_with}
 use Rattle.stream_job.proofs.Feeding.{ended_then}

@@ -1,8 +1,8 @@
 -- The loop stops at the first sink that is full.
 use Rattle.std.proofs.Common.{◌≡◌, ◌<◌, length, ap, ◌∙◌, arith, subst, false}
-use Rattle.stream_eval.specs.stream_lists.Jobs.{with_samples}
-use Rattle.stream_eval.proofs.stream_lists_lemmas.Basics.{find_in_range, find_none_in_range, one_more}
-use Rattle.graph_lang.specs.graph_base.Graphs.{Graph}
+use Rattle.stream_lists.specs.Jobs.{with_samples}
+use Rattle.stream_lists.proofs.Basics.{find_in_range, find_none_in_range, one_more}
+use Rattle.graph_base.specs.Graphs.{Graph}
 use Rattle.stream_job.specs.Streams.{StreamState, is_full}
 use Rattle.stream_job.proofs.stream.Stream.first_full.Goals as goal
 

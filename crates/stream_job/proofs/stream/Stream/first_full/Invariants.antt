@@ -1,6 +1,6 @@
 -- None of the tasks so far is full.
 use Rattle.std.proofs.Common.{◌≡◌, ℕ, ℤ, List, ◌<◌, false}
-use Rattle.stream_eval.specs.stream_lists.Jobs.{with_samples}
+use Rattle.stream_lists.specs.Jobs.{with_samples}
 use Rattle.graph_runs.specs.Moments.{Moment}
 use Rattle.stream_job.specs.Streams.{IsStreamAt, is_full}
 use Rattle.stream_job.proofs.stream.Stream.first_full.Given as goal

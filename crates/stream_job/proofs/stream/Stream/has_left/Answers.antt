@@ -1,11 +1,11 @@
 -- The line of the sink names its task, and the machine has how that stands.
 use Rattle.std.proofs.Common.{◌≡◌, ◌<◌, ℕ, ℤ, true, false, refl, List, None, length, not, sym, ap, subst, ◌∙◌, arith}
 use Rattle.std.proofs.lemmas.Bool.{not-true}
-use Rattle.graph_lang.specs.graph_base.Graphs.{task_at}
-use Rattle.stream_eval.specs.stream_lists.Jobs.{with_samples}
-use Rattle.stream_eval.specs.stream_lists.Lists.{is_sink_at, numbers_of, sinks_of, taken_from}
-use Rattle.stream_eval.specs.stream_lists.Spans.{span_in}
-use Rattle.stream_eval.proofs.stream_lists_lemmas.Basics.{sink_kind}
+use Rattle.graph_base.specs.Graphs.{task_at}
+use Rattle.stream_lists.specs.Jobs.{with_samples}
+use Rattle.stream_lists.specs.Lists.{is_sink_at, numbers_of, sinks_of, taken_from}
+use Rattle.stream_lists.specs.Spans.{span_in}
+use Rattle.stream_lists.proofs.Basics.{sink_kind}
 use Rattle.graph_runs.specs.Feeds.{IsFed}
 use Rattle.graph_runs.specs.Moments.{Moment, input_at, started}
 use Rattle.graph_runs.specs.Nexts.{is_live}

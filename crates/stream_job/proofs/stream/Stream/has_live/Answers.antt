@@ -1,7 +1,7 @@
 -- The input of the source names its task, and the machine has how that stands.
 use Rattle.std.proofs.Common.{◌≡◌, ℕ, ℤ, List, ◌<◌, sym, subst, arith}
-use Rattle.graph_lang.specs.graph_base.Graphs.{sources_of}
-use Rattle.stream_eval.specs.stream_lists.Jobs.{with_samples}
+use Rattle.graph_base.specs.Graphs.{sources_of}
+use Rattle.stream_lists.specs.Jobs.{with_samples}
 use Rattle.graph_runs.specs.Moments.{Moment}
 use Rattle.graph_runs.specs.Nexts.{is_live}
 use Rattle.stream_job.specs.Streams.{StreamState, IsInputOf, IsSourceAt, IsStreamAt}

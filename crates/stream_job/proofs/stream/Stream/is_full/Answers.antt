@@ -1,7 +1,7 @@
 -- A block of its line is a number of steps that a task may make.
 use Rattle.std.proofs.Common.{◌≡◌, sym, subst}
-use Rattle.graph_lang.specs.graph_base.Graphs.{task_at}
-use Rattle.stream_eval.specs.stream_lists.Jobs.{with_samples}
+use Rattle.graph_base.specs.Graphs.{task_at}
+use Rattle.stream_lists.specs.Jobs.{with_samples}
 use Rattle.stream_job.specs.Stepping.{MayStep}
 use Rattle.stream_job.specs.Streams.{StreamState, is_full_by}
 use Rattle.stream_job.proofs.Mosts.{line_may}

@@ -1,9 +1,9 @@
 -- The input of the source keeps what it has still to signal, and whether it has ended.
 use Rattle.std.proofs.Common.{◌≡◌, ℕ, ℤ, List, ◌<◌, ◌&&◌, true, false, not, length, sym, ap, subst, ◌∙◌, arith}
 use Rattle.std.specs.Prelude.{nat_le, vec_len}
-use Rattle.graph_lang.specs.graph_base.Graphs.{is_source, task_at}
-use Rattle.stream_eval.specs.stream_lists.Jobs.{samples_at, with_samples}
-use Rattle.stream_eval.proofs.stream_lists_lemmas.Basics.{source_kind}
+use Rattle.graph_base.specs.Graphs.{is_source, task_at}
+use Rattle.stream_lists.specs.Jobs.{samples_at, with_samples}
+use Rattle.stream_lists.proofs.Basics.{source_kind}
 use Rattle.graph_runs.specs.Feeds.{is_starved}
 use Rattle.graph_runs.specs.Moments.{Moment}
 use Rattle.graph_runs.specs.Nexts.{is_cut}

@@ -1,7 +1,7 @@
 -- A task that rests is left, and one that does not moves or stands.
 use Rattle.std.proofs.Common.{◌≡◌, ◌≤◌, ◌+◌, ℕ, ℤ, List, Some, length, sym, ap, subst, ◌∙◌, arith}
 use Rattle.std.specs.Prelude.{Ok, true}
-use Rattle.stream_eval.specs.stream_lists.Jobs.{with_samples}
+use Rattle.stream_lists.specs.Jobs.{with_samples}
 use Rattle.graph_runs.specs.Moments.{Moment}
 use Rattle.stream_job.specs.Buffers.{most_steps}
 use Rattle.stream_job.specs.InRange.{stands_before}

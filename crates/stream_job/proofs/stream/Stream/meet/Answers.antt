@@ -1,7 +1,7 @@
 -- A value before which a task stands is a fault, and nothing else changes.
 use Rattle.std.proofs.Common.{◌≡◌, ℕ, ℤ, List, None, Some, sym, subst}
-use Rattle.stream_eval.specs.stream_lists.Jobs.{with_samples}
-use Rattle.stream_eval.specs.stream_lists.Ranges.{Where}
+use Rattle.stream_lists.specs.Jobs.{with_samples}
+use Rattle.stream_lists.specs.Ranges.{Where}
 use Rattle.graph_runs.specs.Moments.{Moment}
 use Rattle.stream_job.specs.Rounds.{StandsSome}
 use Rattle.stream_job.specs.Streams.{IsStreamAt, StreamState}

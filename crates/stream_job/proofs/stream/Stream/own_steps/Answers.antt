@@ -1,11 +1,11 @@
 -- A block of the line, or as many steps as the bound of its phaser allows.
 use Rattle.std.proofs.Common.{◌≡◌, ℕ, ◌≤◌, sym, ap, subst, ◌∙◌}
-use Rattle.graph_lang.specs.graph_base.declared.line.Kind.TheVariants.{Sink, Source}
-use Rattle.graph_lang.specs.graph_base.Graphs.{is_sink, is_source, phaser_at, task_at}
+use Rattle.graph_base.specs.declared.line.Kind.TheVariants.{Sink, Source}
+use Rattle.graph_base.specs.Graphs.{is_sink, is_source, phaser_at, task_at}
 use Rattle.graph_runs.specs.Answers.{output_at}
 use Rattle.graph_runs.specs.Moments.{input_at}
-use Rattle.stream_eval.specs.stream_lists.Jobs.{Job, with_samples}
-use Rattle.stream_eval.proofs.stream_lists_lemmas.Basics.{sink_kind, source_kind}
+use Rattle.stream_lists.specs.Jobs.{Job, with_samples}
+use Rattle.stream_lists.proofs.Basics.{sink_kind, source_kind}
 use Rattle.stream_job.specs.Stepping.{MayStep}
 use Rattle.stream_job.specs.Streams.{StreamState}
 use Rattle.stream_job.proofs.Mosts.{line_may, may_signal_in}

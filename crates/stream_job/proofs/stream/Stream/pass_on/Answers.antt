@@ -1,7 +1,7 @@
 -- The steps lead to a moment that the stream then stands for, of the same samples.
 use Rattle.std.proofs.Common.{◌≡◌, ℕ, ℤ, List, None, refl, sym, subst}
 use Rattle.std.specs.List.{All}
-use Rattle.stream_eval.specs.stream_lists.Jobs.{with_samples}
+use Rattle.stream_lists.specs.Jobs.{with_samples}
 use Rattle.graph_runs.specs.Moments.{Moment}
 use Rattle.stream_job.specs.Buffers.{HasPlaces}
 use Rattle.stream_job.specs.Machines.{HasRoom}

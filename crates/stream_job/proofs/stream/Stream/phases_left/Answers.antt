@@ -1,16 +1,16 @@
 -- So many phases are not past the last, and not too far ahead of the slowest waiter.
 use Rattle.std.proofs.Common.{◌≡◌, ℕ, ℤ, List, ◌<◌, ◌+◌, ◌-◌, ◌||◌, length, get_or, sym, ap, subst, ◌∙◌, arith}
 use Rattle.std.specs.Prelude.{nat_lt}
-use Rattle.phase_any.specs.phase_base.Members.{entry_of}
-use Rattle.phase_any.specs.phase_base.declared.limits.TheConstants.{PHASES_MAX}
-use Rattle.phase_any.specs.phase_history.Histories.{members_of}
-use Rattle.phase_any.specs.phase_history.Refusals.{is_ahead}
-use Rattle.graph_lang.specs.graph_base.Graphs.{phaser_at, task_at}
-use Rattle.graph_lang.specs.graph_base.Registrations.{signalled_by}
+use Rattle.phase_base.specs.Members.{entry_of}
+use Rattle.phase_base.specs.declared.limits.TheConstants.{PHASES_MAX}
+use Rattle.phase_history.specs.Histories.{members_of}
+use Rattle.phase_history.specs.Refusals.{is_ahead}
+use Rattle.graph_base.specs.Graphs.{phaser_at, task_at}
+use Rattle.graph_base.specs.Registrations.{signalled_by}
 use Rattle.graph_runs.specs.Answers.{output_at}
 use Rattle.graph_runs.specs.Moments.{Moment, limits_at}
 use Rattle.graph_runs.specs.TaskPlaces.{registration_of_output}
-use Rattle.stream_eval.specs.stream_lists.Jobs.{with_samples}
+use Rattle.stream_lists.specs.Jobs.{with_samples}
 use Rattle.stream_job.specs.Places.{place_in_state}
 use Rattle.stream_job.specs.Stepping.{HasPhases}
 use Rattle.stream_job.specs.Streams.{IsStreamAt, StreamState}

@@ -1,11 +1,11 @@
 -- One registration more.
 use Rattle.std.proofs.Common.{◌≡◌, ◌∷◌, [], ◌++◌, Global, Vec, ap, append_assoc, arith, length, subst, sym, ◌∙◌}
 use Rattle.std.specs.List.{filter_map, range_with_len}
-use Rattle.graph_lang.specs.graph_base.Graphs.{Graph, task_at}
-use Rattle.graph_lang.specs.graph_base.Registrations.{registrations_of}
+use Rattle.graph_base.specs.Graphs.{Graph, task_at}
+use Rattle.graph_base.specs.Registrations.{registrations_of}
 use Rattle.graph_runs.specs.Nexts.{next_of, registrations_at}
-use Rattle.stream_eval.specs.stream_lists.Jobs.{with_samples}
-use Rattle.stream_eval.specs.stream_lists.declared.stand.Stand.{Stand}
+use Rattle.stream_lists.specs.Jobs.{with_samples}
+use Rattle.stream_lists.specs.declared.stand.Stand.{Stand}
 use Rattle.stream_job.specs.Stands.{call_end, stand_by}
 use Rattle.stream_job.specs.Streams.{StreamState}
 use Rattle.stream_job.proofs.StandLists.{filter_map_less, filter_map_more}

@@ -2,7 +2,7 @@
 use Rattle.std.proofs.Common.{◌≡◌, ◌++◌, ℕ, ℤ, List}
 use Rattle.std.specs.List.{filter_map, range_with_len}
 use Rattle.graph_runs.specs.Moments.{Moment}
-use Rattle.stream_eval.specs.stream_lists.Jobs.{with_samples}
+use Rattle.stream_lists.specs.Jobs.{with_samples}
 use Rattle.stream_job.specs.Stands.{stand_by}
 use Rattle.stream_job.specs.Streams.{IsStreamAt}
 use Rattle.stream_job.proofs.stream.Stream.put_stands.Given as goal

@@ -1,6 +1,6 @@
 -- It rests where one of the three says so.
 use Rattle.std.proofs.Common.{◌≡◌, ℕ, ℤ, List, ◌||◌, sym, ap, subst, ◌∙◌}
-use Rattle.stream_eval.specs.stream_lists.Jobs.{with_samples}
+use Rattle.stream_lists.specs.Jobs.{with_samples}
 use Rattle.graph_runs.specs.Moments.{Moment}
 use Rattle.stream_job.specs.InRange.{is_held_up}
 use Rattle.stream_job.specs.Streams.{AreKept, IsStreamAt, StreamState, ended_at, is_full, is_hungry}

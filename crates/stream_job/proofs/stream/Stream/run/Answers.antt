@@ -1,9 +1,9 @@
 -- It goes on by rounds, and keeps where a value out of range is.
 use Rattle.std.proofs.Common.{◌≡◌, List, length, sym, ap, subst, ◌∙◌}
 use Rattle.std.specs.Prelude.{Ok, map}
-use Rattle.graph_lang.specs.graph_base.Graphs.{source_number}
-use Rattle.stream_eval.specs.stream_lists.Jobs.{Job, with_samples}
-use Rattle.stream_eval.specs.stream_lists.Ranges.{answer_of}
+use Rattle.graph_base.specs.Graphs.{source_number}
+use Rattle.stream_lists.specs.Jobs.{Job, with_samples}
+use Rattle.stream_lists.specs.Ranges.{answer_of}
 use Rattle.graph_runs.specs.Feeds.{IsFed}
 use Rattle.graph_runs.specs.Moments.{started}
 use Rattle.graph_runs.specs.Settled.{IsReady}

@@ -1,8 +1,8 @@
 -- One task more.
 use Rattle.std.proofs.Common.{◌≡◌, ◌++◌, ap, arith, length, subst, sym, ◌∙◌}
 use Rattle.std.specs.List.{flat_map, range_with_len}
-use Rattle.graph_lang.specs.graph_base.Graphs.{Graph}
-use Rattle.stream_eval.specs.stream_lists.Jobs.{with_samples}
+use Rattle.graph_base.specs.Graphs.{Graph}
+use Rattle.stream_lists.specs.Jobs.{with_samples}
 use Rattle.stream_job.specs.Stands.{stands_of}
 use Rattle.stream_job.specs.Streams.{StreamState}
 use Rattle.stream_job.proofs.StandLists.{flat_map_more}

@@ -1,6 +1,6 @@
 -- The line of the sink keeps where it begins.
 use Rattle.std.proofs.Common.{◌≡◌, ◌<◌, ℕ, ℤ, List, length, get_or, sym, subst}
-use Rattle.stream_eval.specs.stream_lists.Lists.{sinks_of}
+use Rattle.stream_lists.specs.Lists.{sinks_of}
 use Rattle.graph_runs.specs.Moments.{Moment}
 use Rattle.stream_job.specs.SinkLines.{sink_begins_at}
 use Rattle.stream_job.specs.Streams.{StreamState, IsStreamAt}

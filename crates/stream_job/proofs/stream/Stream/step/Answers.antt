@@ -1,6 +1,6 @@
 -- The machine says it of the samples that the source has still to signal.
 use Rattle.std.proofs.Common.{◌≡◌, ℕ, ℤ, List, sym, subst}
-use Rattle.stream_eval.specs.stream_lists.Jobs.{with_samples}
+use Rattle.stream_lists.specs.Jobs.{with_samples}
 use Rattle.graph_runs.specs.Moments.{Moment}
 use Rattle.graph_runs.specs.Nexts.{next_of}
 use Rattle.stream_job.specs.Machines.{next_by}

@@ -1,10 +1,10 @@
 -- The first sink that is full has its line, and the first source that is hungry its number.
 use Rattle.std.proofs.Common.{◌≡◌, ◌<◌, ℕ, ℤ, List, true, Option, Some, None, length, sym, subst, ◌∙◌, arith}
 use Rattle.std.specs.Prelude.{slice_get, vec_len}
-use Rattle.graph_lang.specs.graph_base.Graphs.{source_number, task_at}
-use Rattle.stream_eval.specs.stream_lists.Jobs.{with_samples}
-use Rattle.stream_eval.specs.stream_lists.Lists.{sinks_of}
-use Rattle.stream_eval.proofs.stream_lists_lemmas.Basics.{sink_kind}
+use Rattle.graph_base.specs.Graphs.{source_number, task_at}
+use Rattle.stream_lists.specs.Jobs.{with_samples}
+use Rattle.stream_lists.specs.Lists.{sinks_of}
+use Rattle.stream_lists.proofs.Basics.{sink_kind}
 use Rattle.graph_runs.specs.Moments.{Moment}
 use Rattle.stream_job.specs.Streams.{IsStreamAt, StreamState, ended_at, first_full, first_hungry, is_full, is_hungry, is_some_live, stop_by}
 use Rattle.stream_job.specs.contracts.stream.Stream.{the_view}

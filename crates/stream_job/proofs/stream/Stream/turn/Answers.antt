@@ -1,7 +1,7 @@
 -- A turn leads to a moment that the stream then stands for, of the same samples.
 use Rattle.std.proofs.Common.{◌≡◌, ℕ, ℤ, List, None, Some, false, true, refl, sym, ap, subst, ◌∙◌}
-use Rattle.graph_lang.specs.graph_base.Graphs.{task_at}
-use Rattle.stream_eval.specs.stream_lists.Jobs.{with_samples}
+use Rattle.graph_base.specs.Graphs.{task_at}
+use Rattle.stream_lists.specs.Jobs.{with_samples}
 use Rattle.graph_runs.specs.Moments.{Moment}
 use Rattle.stream_job.specs.Buffers.{HasPlaces}
 use Rattle.stream_job.specs.InRange.{HasGone, is_held_up, stands_before}

@@ -1,11 +1,11 @@
 -- The line of the sink keeps what was not forgotten, and it is right whatever comes.
 use Rattle.std.proofs.Common.{◌≡◌, ◌<◌, ◌++◌, ℕ, ℤ, List, None, length, sym, ap, subst, ◌∙◌}
-use Rattle.phase_any.proofs.phase_history_lemmas.Streams.{IsPrefix-trans}
+use Rattle.phase_history.proofs.Streams.{IsPrefix-trans}
 use mathlib.Core.List.{IsPrefix}
-use Rattle.graph_lang.specs.graph_base.Graphs.{task_at}
-use Rattle.stream_eval.specs.stream_lists.Jobs.{with_samples}
-use Rattle.stream_eval.specs.stream_lists.Lists.{numbers_of, sinks_of, taken_from}
-use Rattle.stream_eval.specs.stream_lists.Spans.{span_in}
+use Rattle.graph_base.specs.Graphs.{task_at}
+use Rattle.stream_lists.specs.Jobs.{with_samples}
+use Rattle.stream_lists.specs.Lists.{numbers_of, sinks_of, taken_from}
+use Rattle.stream_lists.specs.Spans.{span_in}
 use Rattle.graph_runs.specs.Feeds.{IsFed}
 use Rattle.graph_runs.specs.Moments.{Moment, started}
 use Rattle.graph_runs.specs.Settled.{IsReady}

@@ -1,7 +1,7 @@
 -- By each of the values, where there are some.
 use Rattle.std.proofs.Common.{◌≡◌, ◌≢◌, ◌+◌, ◌<◌, ◌≤◌, ℕ, zero, suc, true, false, List, [], ◌∷◌, length, drop, get_or, refl, sym, ap, ◌∙◌, arith}
 use Rattle.std.specs.Prelude.{Result, Ok, Err, is_err, ℤ}
-use Rattle.graph_lang.specs.stream_filters.declared.fault.TooBigValue.{TooBigValue}
+use Rattle.stream_filters.specs.declared.fault.TooBigValue.{TooBigValue}
 use Rattle.graph_runs.specs.declared.owed.Owed.{Owed}
 use Rattle.stream_job.specs.Stepping.{in_range, are_in_range}
 use Rattle.stream_job.specs.Places.{owed_in}

@@ -1,7 +1,7 @@
 -- A task that is registered on all its phasers is live until it has left them all.
 use Rattle.std.proofs.Common.{◌≡◌, ◌&&◌, length, is_some, nat_lt, not, true, ap, ◌∙◌, sym}
 use Rattle.std.proofs.Math.Bool.{and-false}
-use Rattle.stream_eval.specs.stream_lists.Jobs.{with_samples}
+use Rattle.stream_lists.specs.Jobs.{with_samples}
 use Rattle.graph_runs.specs.Nexts.{first_missing, first_kept}
 use Rattle.stream_job.specs.Places.{place_in_state}
 use Rattle.stream_job.proofs.Reading.{live_by, complete}

@@ -1,8 +1,8 @@
 -- It is where it has a number for each registration.
 use Rattle.std.proofs.Common.{not, length, ap, ◌∙◌, nat_le, sym}
-use Rattle.graph_lang.specs.graph_base.Graphs.{task_at}
-use Rattle.graph_lang.specs.graph_base.Registrations.{registrations_of}
-use Rattle.stream_eval.specs.stream_lists.Jobs.{with_samples}
+use Rattle.graph_base.specs.Graphs.{task_at}
+use Rattle.graph_base.specs.Registrations.{registrations_of}
+use Rattle.stream_lists.specs.Jobs.{with_samples}
 use Rattle.stream_job.specs.Places.{place_in_state}
 use Rattle.stream_job.proofs.Reading.{registered_by}
 use Rattle.stream_job.proofs.task_state.TaskState.is_registered.Goals as goal

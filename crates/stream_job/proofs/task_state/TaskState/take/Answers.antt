@@ -1,10 +1,10 @@
 -- By what the task is: a filter, a source or a sink, or another.
 use Rattle.std.proofs.Common.{rules, SFits, w64, to_z, of_z, pos, ◌≡◌, ◌⊎◌, ◌+◌, ◌∷◌, [], length, map, get_or, refl, sym, ap, subst, ◌∙◌, arith, to_z-of_z}
 use Rattle.std.proofs.lemmas.List.{length-map}
-use Rattle.phase_any.specs.phase_accum.declared.outcome.Outcome.TheVariants.{Value}
-use Rattle.graph_lang.specs.graph_base.declared.line.Kind.TheVariants.{Source, Fir, Sink}
-use Rattle.graph_lang.specs.graph_base.Graphs.{task_at}
-use Rattle.stream_eval.specs.stream_lists.Lists.{number}
+use Rattle.phase_accum.specs.declared.outcome.Outcome.TheVariants.{Value}
+use Rattle.graph_base.specs.declared.line.Kind.TheVariants.{Source, Fir, Sink}
+use Rattle.graph_base.specs.Graphs.{task_at}
+use Rattle.stream_lists.specs.Lists.{number}
 use Rattle.graph_runs.specs.TaskPlaces.{owed_after_wait}
 use Rattle.stream_job.specs.Places.{StateHasTaken}
 use Rattle.stream_job.specs.declared.task_state.TaskState.{TaskState}

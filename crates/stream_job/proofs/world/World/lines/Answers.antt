@@ -1,13 +1,13 @@
 -- Where no value was out of range the sinks keep all, and where no task is live they have it all.
 use Rattle.std.proofs.Common.{◌≡◌, ℕ, ℤ, ◌<◌, List, None, true, false, length, map, sym, ap, subst, ◌∙◌}
 use Rattle.std.specs.Prelude.{Ok}
-use Rattle.phase_any.proofs.phase_history_lemmas.Streams.{IsPrefix-trans}
+use Rattle.phase_history.proofs.Streams.{IsPrefix-trans}
 use mathlib.Core.List.{IsPrefix}
-use Rattle.graph_lang.specs.graph_base.Graphs.{task_at}
-use Rattle.stream_eval.specs.stream_lists.Spans.{span_in}
+use Rattle.graph_base.specs.Graphs.{task_at}
+use Rattle.stream_lists.specs.Spans.{span_in}
 use Rattle.stream_eval.specs.Results.{sink_values}
-use Rattle.stream_eval.specs.stream_lists.Lists.{is_sink_at, numbers_of, sinks_of, taken_from}
-use Rattle.stream_eval.specs.stream_lists.Ranges.{answer_of}
+use Rattle.stream_lists.specs.Lists.{is_sink_at, numbers_of, sinks_of, taken_from}
+use Rattle.stream_lists.specs.Ranges.{answer_of}
 use Rattle.graph_runs.specs.Moments.{Moment, started}
 use Rattle.graph_runs.specs.Nexts.{is_live}
 use Rattle.stream_job.specs.SinkLines.{kept_by, sink_begins_at}

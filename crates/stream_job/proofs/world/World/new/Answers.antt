@@ -2,7 +2,7 @@
 use Rattle.std.proofs.Common.{◌≡◌, true, false, length, refl, sym, ap, subst, ◌∙◌}
 use Rattle.std.specs.List.{All, list_any}
 use Rattle.std.specs.Prelude.{◌==◌, None}
-use Rattle.graph_lang.specs.graph_base.Graphs.{Graph}
+use Rattle.graph_base.specs.Graphs.{Graph}
 use Rattle.graph_runs.specs.Beginnings.{opening}
 use Rattle.graph_runs.proofs.AnsweredInTurn.{opening_answers_none}
 use Rattle.stream_job.specs.Machines.{IsLineOf, KeepsLines, none_given}

@@ -15,7 +15,7 @@ use Rattle.stream_job.proofs.world.World.turn.Goals.{In_ok-made}
 use Rattle.stream_job.proofs.world.World.turn.Goals as goal
 use Rattle.stream_job.specs.Stepping.{HasRoomNext, MayStep}
 use Rattle.stream_job.proofs.Mosts.{line_may}
-use Rattle.graph_lang.specs.graph_base.Graphs.{task_at}
+use Rattle.graph_base.specs.Graphs.{task_at}
 
 -- the machine had a turn with the job's samples
 had : (c : In_ok-made) → HadLine c.self.inside.job.now c.self.inside.machine c.make.new.self

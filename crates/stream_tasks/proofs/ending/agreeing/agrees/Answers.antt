@@ -1,6 +1,6 @@
 -- What was found of the task and of its parent.
 use Rattle.std.proofs.Common.{◌≡◌, Some, None, IfSome, sym, ap, subst, ◌∙◌}
-use Rattle.graph_runs.specs.graph_base.Graphs.{Graph, Task, task_at}
+use Rattle.graph_base.specs.Graphs.{Graph, Task, task_at}
 use Rattle.stream_tasks.specs.Joinings.{IsPlaced}
 use Rattle.stream_tasks.specs.TaskLefts.{given_to}
 use Rattle.stream_tasks.proofs.Agreed.{agreed_root, agreed_child, found_part, same_lists}

@@ -1,6 +1,6 @@
 -- The task that was found.
 use Rattle.std.proofs.Common.{◌≡◌, IfSome, length, ap, subst, ◌∙◌, arith}
-use Rattle.graph_runs.specs.graph_base.Graphs.{Graph}
+use Rattle.graph_base.specs.Graphs.{Graph}
 use Rattle.stream_tasks.specs.Joinings.{IsPlaced}
 use Rattle.stream_tasks.proofs.ending.given_numbers.is_of_task.Goals as goal
 

@@ -1,12 +1,12 @@
 -- What was popped is the last of what was left, and its place is that of its registration.
 use Rattle.std.proofs.Common.{◌≡◌, ℕ, ◌+◌, ◌-◌, take, ◌<◌, [], ◌∷◌, ◌++◌, length, get_or, sym, ap, subst, ◌∙◌, arith}
 use Rattle.std.proofs.lemmas.List.{length-append}
-use Rattle.stream_eval.specs.stream_lists.Jobs.{Job}
-use Rattle.graph_runs.specs.graph_base.declared.registration.Registration.{Registration}
+use Rattle.stream_lists.specs.Jobs.{Job}
+use Rattle.graph_base.specs.declared.registration.Registration.{Registration}
 use Rattle.stream_tasks.specs.Joinings.{HasPlaceFor}
 use Rattle.stream_tasks.specs.EndsInside.{HasTakenIn}
-use Rattle.graph_runs.specs.graph_base.Graphs.{Graph, task_at}
-use Rattle.graph_runs.specs.graph_base.Registrations.{registrations_of, no_registration}
+use Rattle.graph_base.specs.Graphs.{Graph, task_at}
+use Rattle.graph_base.specs.Registrations.{registrations_of, no_registration}
 use Rattle.graph_runs.specs.Nexts.{registrations_at}
 use Rattle.graph_runs.specs.TaskPlaces.{registration_at}
 use Rattle.stream_tasks.proofs.TakingIn.{none_taken, popped_place, popped_taken, place_within}

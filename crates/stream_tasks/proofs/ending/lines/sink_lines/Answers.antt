@@ -3,10 +3,10 @@ use Rattle.std.proofs.Common.{rules, ◌≡◌, ℕ, ℤ, ◌<◌, List, [], ◌
 use Rattle.std.specs.List.{range_with_len, filter}
 use Rattle.std.proofs.lemmas.List.{map_push}
 use Rattle.std.proofs.lemmas.List.Elements.{All-push}
-use Rattle.graph_runs.specs.graph_base.Graphs.{Graph, is_sink, task_at}
+use Rattle.graph_base.specs.Graphs.{Graph, is_sink, task_at}
 use Rattle.stream_eval.specs.Results.{sink_values}
-use Rattle.stream_eval.specs.stream_lists.Lists.{is_sink_at}
-use Rattle.stream_eval.proofs.stream_lists_lemmas.Firsts.{filter-skip, filter-take}
+use Rattle.stream_lists.specs.Lists.{is_sink_at}
+use Rattle.stream_lists.proofs.Firsts.{filter-skip, filter-take}
 use Rattle.stream_tasks.specs.TaskLefts.{part_lines, part_start, lines_at}
 use Rattle.stream_tasks.proofs.Added.{behind_set, same_place}
 use Rattle.stream_tasks.proofs.ending.lines.sink_lines.Goals as goal

@@ -1,8 +1,8 @@
 use Rattle.std.proofs.Common.{◌≡◌, ℕ, ◌<◌, ◌≤◌, None, get_or, map, length, slice_get}
 use Rattle.std.specs.List.{All, range_with_len, filter}
-use Rattle.graph_runs.specs.graph_base.Graphs.{task_at}
+use Rattle.graph_base.specs.Graphs.{task_at}
 use Rattle.stream_eval.specs.Results.{sink_values}
-use Rattle.stream_eval.specs.stream_lists.Lists.{is_sink_at}
+use Rattle.stream_lists.specs.Lists.{is_sink_at}
 use Rattle.stream_tasks.specs.TaskLefts.{part_start, lines_at}
 use Rattle.stream_tasks.proofs.ending.lines.sink_lines.Given as goal
 

@@ -1,6 +1,6 @@
 -- What was gathered and agrees is the end of a run, of which the law tells the answer.
 use Rattle.std.proofs.Common.{◌≡◌, ◌<◌, ℕ, [], length, map, get_or, IfSome, subst, arith}
-use Rattle.graph_runs.specs.graph_base.TaskLines.{IsGraph}
+use Rattle.graph_base.specs.TaskLines.{IsGraph}
 use Rattle.graph_runs.specs.Settled.{IsReady}
 use Rattle.graph_runs.specs.RunEnds.{Ends}
 use Rattle.stream_tasks.specs.Gatherings.{AreGathered}

@@ -1,9 +1,9 @@
 -- A registration is on a phaser of the graph.
 use Rattle.std.proofs.Common.{◌≡◌, subst, length, refl}
 use Rattle.std.specs.Prelude.{get_or}
-use Rattle.graph_runs.specs.graph_base.Graphs.{task_at}
-use Rattle.graph_runs.specs.graph_base.Registrations.{registrations_of, no_registration}
-use Rattle.graph_runs.specs.graph_base.TaskLines.{IsGraph}
+use Rattle.graph_base.specs.Graphs.{task_at}
+use Rattle.graph_base.specs.Registrations.{registrations_of, no_registration}
+use Rattle.graph_base.specs.TaskLines.{IsGraph}
 use Rattle.stream_tasks.proofs.Rows.{has_founder}
 use Rattle.stream_tasks.proofs.opening.founders.registration_of.Goals as goal
 

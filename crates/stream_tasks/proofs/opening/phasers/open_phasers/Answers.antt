@@ -2,7 +2,7 @@
 use Rattle.std.proofs.Common.{subst, sym, ap, ◌∙◌, ◌++◌, [], ◌∷◌, ◌≡◌, length, arith}
 use Rattle.std.specs.Prelude.{slice_get}
 use Rattle.std.proofs.lemmas.List.{length-append}
-use Rattle.stream_eval.proofs.stream_lists_lemmas.Basics.{each-push}
+use Rattle.stream_lists.proofs.Basics.{each-push}
 use Rattle.stream_members.specs.AnyPhasers.{phaser_op, phaser_spot}
 use Rattle.stream_tasks.specs.Openings.{AreFoundersFrom, IsOfLine}
 use Rattle.stream_tasks.proofs.Rows.{both_more}

@@ -1,8 +1,8 @@
 -- A root begins at its first moment.
 use Rattle.std.proofs.Common.{◌≡◌, ◌≤◌, ℕ, length, subst, sym, ap, ◌∙◌, arith}
-use Rattle.graph_runs.specs.graph_base.Graphs.{Graph, task_at}
-use Rattle.graph_runs.specs.graph_base.Registrations.{registrations_of}
-use Rattle.graph_runs.specs.graph_base.TaskLines.{IsGraph}
+use Rattle.graph_base.specs.Graphs.{Graph, task_at}
+use Rattle.graph_base.specs.Registrations.{registrations_of}
+use Rattle.graph_base.specs.TaskLines.{IsGraph}
 use Rattle.graph_runs.specs.Nexts.{registrations_at}
 use Rattle.stream_tasks.specs.Tasks.{IsTask}
 use Rattle.stream_tasks.proofs.Seeding.{are_roots, seen_by, begins}

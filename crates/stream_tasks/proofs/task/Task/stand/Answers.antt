@@ -2,8 +2,8 @@
 use Rattle.std.proofs.Common.{rules, ◌≡◌, ◌<◌, refl, length, ◌∙◌, ap}
 use Rattle.graph_runs.specs.Nexts.{registrations_at}
 use Rattle.graph_runs.specs.TaskPlaces.{registration_at}
-use Rattle.stream_eval.specs.stream_lists.Stands.{call_on}
-use Rattle.stream_eval.specs.stream_lists.declared.stand.Stand.{Stand}
+use Rattle.stream_lists.specs.Stands.{call_on}
+use Rattle.stream_lists.specs.declared.stand.Stand.{Stand}
 use Rattle.stream_tasks.specs.Standings.{IsStandOf}
 use Rattle.stream_tasks.proofs.Standing.{puts_one}
 use Rattle.stream_tasks.proofs.task.Task.stand.Goals as goal

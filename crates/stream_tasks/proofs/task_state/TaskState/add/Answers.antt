@@ -2,8 +2,8 @@
 use Rattle.std.proofs.Common.{◌≡◌, ◌<◌, ℕ, Bool, Some, [], ◌∷◌, ◌++◌, length, get_or, sym, subst, ap, ◌∙◌, arith}
 use Rattle.std.specs.Prelude.{slice_get}
 use Rattle.std.proofs.lemmas.Option.{slice_get_within, slice_get-get_or, same_Some}
-use Rattle.graph_runs.specs.graph_base.Graphs.{Graph, Task, task_at}
-use Rattle.stream_eval.specs.stream_lists.Jobs.{Job}
+use Rattle.graph_base.specs.Graphs.{Graph, Task, task_at}
+use Rattle.stream_lists.specs.Jobs.{Job}
 use Rattle.stream_members.specs.AnyMembers.{member_in}
 use Rattle.graph_runs.specs.TaskPlaces.{registration_at}
 use Rattle.stream_tasks.specs.declared.child.Child.{Child}

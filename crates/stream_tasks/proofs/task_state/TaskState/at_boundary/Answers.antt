@@ -1,6 +1,6 @@
 -- `until` allows a step or not.
 use Rattle.std.proofs.Common.{◌≡◌, true, sym, ap, ◌∙◌}
-use Rattle.graph_runs.specs.graph_base.Graphs.{task_at}
+use Rattle.graph_base.specs.Graphs.{task_at}
 use Rattle.graph_runs.specs.Nexts.{is_cut}
 use Rattle.graph_runs.proofs.TellsNext.{ended_cut}
 use Rattle.stream_tasks.specs.Tasks.{place_of_state}

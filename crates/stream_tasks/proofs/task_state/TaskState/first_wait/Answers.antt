@@ -3,8 +3,8 @@ use Rattle.std.proofs.Common.{◌≡◌, ◌≤◌, ◌+◌, ◌++◌, true, fal
 use Rattle.std.specs.Prelude.{take, drop}
 use Rattle.std.proofs.lemmas.List.{length-take-le, take-append-le, take-append-drop}
 use Rattle.graph_runs.proofs.Entries.{take_length}
-use Rattle.graph_runs.specs.graph_base.Graphs.{is_sink, task_at}
-use Rattle.stream_eval.specs.stream_lists.Lists.{is_sink_at, number}
+use Rattle.graph_base.specs.Graphs.{is_sink, task_at}
+use Rattle.stream_lists.specs.Lists.{is_sink_at, number}
 use Rattle.stream_tasks.specs.Holds.{HoldGoesOn, WaitGave, MemberHasWaited, IsAtMost}
 use Rattle.stream_tasks.proofs.Turning.{filter_of, task_sees, whole_moves, as_it_is}
 use Rattle.stream_tasks.proofs.Waiting.{task_takes, input_on}

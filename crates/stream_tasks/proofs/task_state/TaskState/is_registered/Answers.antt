@@ -3,8 +3,8 @@ use Rattle.std.proofs.Common.{◌≡◌, ◌≤◌, ◌<◌, ℕ, length, Some, 
 use Rattle.std.specs.Prelude.{slice_get}
 use Rattle.std.proofs.lemmas.Bool.{leb-true}
 use Rattle.std.proofs.lemmas.Option.{slice_get-get_or}
-use Rattle.graph_runs.specs.graph_base.Graphs.{Graph, task_at}
-use Rattle.graph_runs.specs.graph_base.Registrations.{registrations_of}
+use Rattle.graph_base.specs.Graphs.{Graph, task_at}
+use Rattle.graph_base.specs.Registrations.{registrations_of}
 use Rattle.graph_runs.specs.Nexts.{registrations_at}
 use Rattle.stream_tasks.proofs.task_state.TaskState.is_registered.Goals as goal
 

@@ -3,8 +3,8 @@ use Rattle.std.proofs.Common.{◌≡◌, ◌<◌, length, sym, subst, ap, ◌∙
 use Rattle.std.specs.Vec.{with_item}
 use Rattle.std.specs.Prelude.{set}
 use Rattle.std.proofs.lemmas.List.{set-get_or}
-use Rattle.graph_runs.specs.graph_base.Graphs.{task_at}
-use Rattle.graph_runs.specs.graph_base.Registrations.{registrations_of, no_registration}
+use Rattle.graph_base.specs.Graphs.{task_at}
+use Rattle.graph_base.specs.Registrations.{registrations_of, no_registration}
 use Rattle.graph_runs.specs.TaskPlaces.{registration_at}
 use Rattle.stream_tasks.specs.Tasks.{IsTask}
 use Rattle.graph_runs.specs.Nexts.{registrations_at}

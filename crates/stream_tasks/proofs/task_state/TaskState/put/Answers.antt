@@ -3,7 +3,7 @@ use Rattle.std.proofs.Common.{◌≡◌, length, sym, refl, subst, ap, ◌∙◌
 use Rattle.std.specs.Prelude.{[], ◌∷◌}
 use Rattle.graph_runs.specs.TaskPlaces.{owed_after_signal}
 use Rattle.graph_runs.specs.Steps.{owed_of}
-use Rattle.graph_runs.specs.graph_base.Graphs.{task_at, phaser_at}
+use Rattle.graph_base.specs.Graphs.{task_at, phaser_at}
 use Rattle.stream_tasks.specs.Holds.{HoldGoesOn, MemberHasSignalled}
 use Rattle.stream_tasks.specs.Tasks.{owed_by}
 use Rattle.stream_tasks.proofs.Turning.{task_sees, task_puts, owed_output, output_on, owes_value, value_fits}

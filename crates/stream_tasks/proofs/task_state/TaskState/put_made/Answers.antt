@@ -1,6 +1,6 @@
 -- The values are those that it has made.
 use Rattle.std.proofs.Common.{◌≡◌, inr, length, sym, refl, subst, ap, ◌∙◌, arith}
-use Rattle.graph_runs.specs.graph_base.Graphs.{phaser_at}
+use Rattle.graph_base.specs.Graphs.{phaser_at}
 use Rattle.stream_tasks.specs.Holds.{HoldGoesOn, MemberHasSignalled}
 use Rattle.stream_tasks.proofs.Turning.{task_sees, task_puts, has_send_places, held, makes_many, owed_output, output_on, owes_made, put_all_owes, made_fits}
 use Rattle.stream_tasks.proofs.task_state.TaskState.put_made.Goals as goal

@@ -2,9 +2,9 @@
 use Rattle.std.proofs.Common.{◌≡◌, ◌<◌, ◌≤◌, ◌+◌, ◌-◌, inl, false, length, refl, sym, subst, ap, ◌∙◌, arith, rules}
 use Rattle.std.specs.Prelude.{take, drop, min}
 use Rattle.std.proofs.lemmas.List.{length-take-le, length-drop}
-use Rattle.graph_runs.specs.graph_base.Graphs.{task_at, phaser_at}
-use Rattle.graph_runs.specs.graph_base.Registrations.{signalled_by}
-use Rattle.stream_eval.specs.stream_lists.Jobs.{samples_at}
+use Rattle.graph_base.specs.Graphs.{task_at, phaser_at}
+use Rattle.graph_base.specs.Registrations.{signalled_by}
+use Rattle.stream_lists.specs.Jobs.{samples_at}
 use Rattle.graph_runs.proofs.TellsNext.{ended_no_sample}
 use Rattle.stream_tasks.specs.Holds.{HoldGoesOn, MemberHasSignalled}
 use Rattle.stream_tasks.specs.Tasks.{place_of_state}

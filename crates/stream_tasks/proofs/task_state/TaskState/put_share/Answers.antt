@@ -1,9 +1,9 @@
 -- The values are the share of the output whose turn it is.
 use Rattle.std.proofs.Common.{◌≡◌, ◌<◌, ◌≤◌, length, refl, sym, subst, ap, ◌∙◌, arith}
 use Rattle.std.specs.Vec.{with_item}
-use Rattle.graph_runs.specs.graph_base.Graphs.{phaser_at, task_at}
-use Rattle.graph_runs.specs.graph_base.Registrations.{signalled_by}
-use Rattle.stream_eval.specs.stream_lists.Lists.{every}
+use Rattle.graph_base.specs.Graphs.{phaser_at, task_at}
+use Rattle.graph_base.specs.Registrations.{signalled_by}
+use Rattle.stream_lists.specs.Lists.{every}
 use Rattle.stream_tasks.specs.Deals.{DealtThen, HasDealRoom}
 use Rattle.stream_tasks.specs.Holds.{HoldGoesOn, MemberHasSignalled}
 use Rattle.stream_tasks.proofs.Dealing.{split_ends}

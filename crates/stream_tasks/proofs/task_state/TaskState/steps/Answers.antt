@@ -3,7 +3,7 @@ use Rattle.std.proofs.Common.{◌≡◌, ℕ, ◌+◌, ◌<◌, ◌≤◌, false
 use Rattle.std.specs.Prelude.{Option, slice_get}
 use Rattle.graph_runs.specs.Moments.{AtMost}
 use Rattle.graph_runs.specs.Nexts.{is_cut}
-use Rattle.graph_runs.specs.graph_base.Graphs.{task_at}
+use Rattle.graph_base.specs.Graphs.{task_at}
 use Rattle.graph_runs.specs.NextBlocks.{until_allows}
 use Rattle.stream_tasks.proofs.Allowing.{within}
 use Rattle.stream_tasks.proofs.task_state.TaskState.steps.Goals as goal

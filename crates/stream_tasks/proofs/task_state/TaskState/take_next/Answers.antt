@@ -2,10 +2,10 @@
 use Rattle.std.proofs.Common.{◌≡◌, ◌≤◌, ◌∷◌, ◌++◌, [], Ok, false, get_or, length, refl, sym, ap, subst, ◌∙◌, arith, rules, SFits, to_z, of_z, to_z-of_z, w64}
 use Rattle.std.specs.Prelude.{take}
 use Rattle.std.proofs.lemmas.List.{get_or-take, length-take-le}
-use Rattle.graph_runs.specs.graph_base.Graphs.{task_at}
-use Rattle.graph_runs.specs.graph_base.declared.line.Kind.TheVariants as kind
-use Rattle.graph_runs.specs.phase_accum.declared.outcome.Outcome.{Outcome}
-use Rattle.stream_eval.specs.stream_lists.Lists.{number}
+use Rattle.graph_base.specs.Graphs.{task_at}
+use Rattle.graph_base.specs.declared.line.Kind.TheVariants as kind
+use Rattle.phase_accum.specs.declared.outcome.Outcome.{Outcome}
+use Rattle.stream_lists.specs.Lists.{number}
 use Rattle.stream_tasks.specs.Holds.{HasRunOut, HoldGoesOn, IsAtMost, MemberHasWaited, WaitGave}
 use Rattle.stream_tasks.proofs.EndingLemmas.{runs_out}
 use Rattle.stream_tasks.proofs.JoinStates.{ended_sees, join_children, join_owes_none, join_sees, task_joins}

@@ -2,9 +2,9 @@
 use Rattle.std.proofs.Common.{rules, ◌≡◌, ◌+◌, ◌*◌, ◌≤◌, false, length, refl, ap, subst, ◌∙◌, arith, All}
 use Rattle.std.specs.Prelude.{take}
 use Rattle.std.proofs.lemmas.List.FromFn.{length-map-range_with_len}
-use Rattle.graph_runs.specs.graph_base.Graphs.{task_at}
-use Rattle.stream_eval.specs.stream_lists.Lists.{in_turn, turn_at}
-use Rattle.stream_eval.specs.stream_lists.Ranges.{is_too_big}
+use Rattle.graph_base.specs.Graphs.{task_at}
+use Rattle.stream_lists.specs.Lists.{in_turn, turn_at}
+use Rattle.stream_lists.specs.Ranges.{is_too_big}
 use Rattle.graph_runs.proofs.Standing.{many}
 use Rattle.stream_tasks.specs.Joiners.{HaveGiven, shares_in}
 use Rattle.stream_tasks.proofs.JoinShares.{task_shares, whole_shares}

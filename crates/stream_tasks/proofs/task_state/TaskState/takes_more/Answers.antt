@@ -1,7 +1,7 @@
 -- The output is one of its registrations.
 use Rattle.std.proofs.Common.{◌<◌, length, arith, rules}
-use Rattle.graph_runs.specs.graph_base.Graphs.{task_at}
-use Rattle.graph_runs.specs.graph_base.Registrations.{signalled_by}
+use Rattle.graph_base.specs.Graphs.{task_at}
+use Rattle.graph_base.specs.Registrations.{signalled_by}
 use Rattle.stream_tasks.proofs.Turning.{output_on}
 use Rattle.stream_tasks.proofs.task_state.TaskState.takes_more.Goals as goal
 

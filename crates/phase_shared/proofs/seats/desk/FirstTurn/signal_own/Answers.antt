@@ -1,6 +1,6 @@
 use Rattle.std.proofs.Common.{◌∷◌, [], None, ap, sym, subst, ◌∙◌}
 use Rattle.turn_lock.specs.Seats.{turn_view, turn_value}
-use Rattle.phase_core.specs.phase_history.declared.event.Event.TheVariants.{Signalled}
+use Rattle.phase_history.specs.declared.event.Event.TheVariants.{Signalled}
 use Rattle.phase_core.specs.Cores.{CoreState, StandsFor}
 use Rattle.phase_shared.specs.Asks.{Ask}
 use Rattle.phase_shared.specs.Rule.{StandsWithin}

@@ -2,7 +2,7 @@ use Rattle.std.proofs.Common.{◌≡◌, ◌++◌, sym, ap, subst, ◌∙◌}
 use Rattle.std.specs.Prelude.{Result, Ok, Err}
 use Rattle.turn_lock.specs.Seats.{turn_view, turn_value}
 use Rattle.phase_shared.specs.Phasers.{CoreState, StandsFor, after_wait, wait_reply, Got, WaitRefusal}
-use Rattle.phase_core.specs.phase_history.declared.got.Got.TheVariants as got
+use Rattle.phase_history.specs.declared.got.Got.TheVariants as got
 use Rattle.phase_shared.proofs.ServingTurns.{own_reply, own_waited}
 use Rattle.phase_shared.specs.Goods.{allows_or}
 use Rattle.phase_shared.proofs.seats.desk.OnTurn.wait_own.Goals as goal

@@ -1,5 +1,5 @@
 use Rattle.std.proofs.Common.{◌<◌, ℕ, false, refl, ap, sym, subst}
-use Rattle.phase_core.specs.phase_history.Histories.{done_of}
+use Rattle.phase_history.specs.Histories.{done_of}
 use Rattle.turn_lock.specs.Seats.{turn_view, turn_value}
 use Rattle.phase_shared.proofs.ServingTurns.{same_turn, stays_open}
 use Rattle.phase_shared.proofs.TurnParts.{serves_now}

@@ -1,6 +1,6 @@
 use Rattle.std.proofs.Common.{[], ◌∷◌, sym, subst, refl}
 use Rattle.phase_shared.specs.Phasers.{Limits, founder, IsLegal}
-use Rattle.phase_core.specs.phase_history.declared.event.Event.TheVariants.{Made}
+use Rattle.phase_history.specs.declared.event.Event.TheVariants.{Made}
 use Rattle.phase_shared.specs.Rule.{IsSeatOfTask, StandsWithin}
 use Rattle.phase_shared.specs.declared.seats.view.View.{View}
 use Rattle.phase_shared.proofs.Joining.{founds}
