@@ -1,21 +1,21 @@
 //! A phaser under any of the five operations.
-ghost use Rattle.std.specs.Prelude.{◌≡◌, ◌≢◌, ◌<◌, ◌≤◌, ◌+◌, ℕ, [], ◌∷◌, Ok, Some, None, is_some, length, take, slice_range, IfOk, IfErr, OnOk, OnErr};
+ghost use Rattle.std.specs.Prelude.{◌≡◌, ◌≢◌, ◌<◌, ◌≤◌, ◌+◌, ℕ, [], ◌∷◌, Ok, Some, None, is_some, length, IfOk, IfErr, OnOk, OnErr};
 ghost use Rattle.phase_base.specs.Limits.{Limits};
 ghost use Rattle.phase_base.specs.Members.{entry_of, signal_phases, wait_phases, least};
-ghost use Rattle.phase_accum.specs.Sends.{AreSends, IsSend};
+ghost use Rattle.phase_accum.specs.Sends.{AreSends};
 ghost use Rattle.phase_accum.specs.Values.{value_by};
 ghost use Rattle.phase_history.specs.declared.event.Event.TheVariants.{Made, Registered, RegisteredNow, Dropped};
 ghost use Rattle.phase_history.specs.Histories.{History, members_of, done_of, greatest_used};
 ghost use Rattle.phase_history.specs.Refusals.{register_refusal, register_now_refusal, drop_refusal};
 ghost use Rattle.phase_history.specs.Phases.{stream_of};
 ghost use Rattle.phase_history.specs.Replies.{wait_block_reply, after_wait_block, signal_reply, wait_reply, after_signal, after_wait};
-ghost use Rattle.phase_core.specs.Blocks.{one_each, written, before_too_big, after_in_range};
+ghost use Rattle.phase_core.specs.Blocks.{one_each, written, before_too_big};
 ghost use Rattle.phase_registry.specs.Rosters.{next_after};
 ghost use Rattle.phase_base.specs.declared.limits.TheConstants.{SENDS_MAX};
 
 use crate::block_sends::{signal_block, signal_values};
 use crate::parcels::Parcels;
-use crate::sends::{signal_one, signal_sends};
+use crate::sends::signal_sends;
 use phase_accum::{Any, Greatest, Least, Op, Outcome, Product, Single, Sum};
 use phase_base::{Entry, Mode, Spec};
 use phase_core::{Got, GotBlock, NoTask, PhaserCore, RegisterRefusal, SignalRefusal, WaitRefusal};
@@ -80,29 +80,6 @@ impl AnyPhaser {
         ensures err { OnErr result (self.new ≡ self.old) }
     {
         each!(self, core => signal_sends(core, task, values, single))
-    }
-
-    /// Signals the task's phase with one send and a single or none, and answers that phase. It
-    /// takes no memory.
-    ///
-    /// Any value can be sent but `NO_VALUE`.
-    pub fn signal_one(
-        &mut self,
-        task: u64,
-        value: i64,
-        single: Option<Single>,
-    ) -> Result<u64, SignalRefusal>
-        requires { IsSend value }
-        ensures reply { (op : Op) (limits : Limits) (h : History)
-            → PhaserStandsFor self.old op limits h
-            → signal_reply limits h task ((value ∷ []) ∷ []) single ≡ result }
-        ensures after { (op : Op) (limits : Limits) (h : History)
-            → PhaserStandsFor self.old op limits h
-            → PhaserStandsFor self.new op limits
-            (after_signal result task ((value ∷ []) ∷ []) single h) }
-        ensures err { OnErr result (self.new ≡ self.old) }
-    {
-        each!(self, core => signal_one(core, task, value, single))
     }
 
     /// Signals as many phases in a row as there are values, the first the task's, with one send
@@ -209,38 +186,17 @@ impl AnyPhaser {
         each!(self, core => core.wait_block(task, out))
     }
 
-    /// Waits for a block as `wait_block` does, but goes no further than the values in range: it
-    /// gets those before the first that is too big, and none where the task's own phase has it.
-    /// What stands in the places behind them is not promised. It never blocks, and takes no memory.
-    pub fn wait_in_range(&mut self, task: u64, out: &mut [Outcome]) -> Result<GotBlock, WaitRefusal>
-        ensures reply { (op : Op) (limits : Limits) (h : History)
-            → PhaserStandsFor self.old op limits h
+    /// Answers how many complete phases in range come next for a task, of at most so many: those
+    /// before the first whose value is too big, and none where the task's own phase has it; or that
+    /// no more will come, or the refusal that a wait for so many would get. It changes nothing,
+    /// takes no memory and never blocks.
+    pub fn good_ahead(&self, task: u64, most: usize) -> Result<GotBlock, WaitRefusal>
+        ensures { (op : Op) (limits : Limits) (h : History)
+            → PhaserStandsFor self.now op limits h
             → before_too_big (stream_of (value_by op) h)
-            (wait_block_reply limits h task (length out.old)) ≡ result }
-        ensures after { (op : Op) (limits : Limits) (h : History)
-            → PhaserStandsFor self.old op limits h
-            → PhaserStandsFor self.new op limits (after_in_range result task h) }
-        ensures out { (phase count : ℕ) → result ≡ Ok (GotBlock.Values phase count)
-            → (op : Op) (limits : Limits) (h : History)
-            → PhaserStandsFor self.old op limits h
-            → take count out.new ≡ slice_range (stream_of (value_by op) h) phase (phase + count) }
-        ensures few { (phase count : ℕ) → result ≡ Ok (GotBlock.Values phase count)
-            → count ≤ length out.old }
-        // Where it got values, it is a wait for just so many.
-        ensures block { (phase count : ℕ) → result ≡ Ok (GotBlock.Values phase count)
-            → 0 < count → (op : Op) (limits : Limits) (h : History)
-            → PhaserStandsFor self.old op limits h
-            → wait_block_reply limits h task count ≡ result }
-        // Where it got none, the value of the task's phase is too big.
-        ensures too_big { (phase : ℕ) → result ≡ Ok (GotBlock.Values phase 0)
-            → (op : Op) (limits : Limits) (h : History)
-            → PhaserStandsFor self.old op limits h
-            → (wait_block_reply limits h task 1 ≡ Ok (GotBlock.Values phase 1))
-            × (slice_range (stream_of (value_by op) h) phase (phase + 1) ≡ Outcome.TooBig ∷ [])
-            × (self.new ≡ self.old) }
-        ensures err { OnErr result (self.new ≡ self.old) }
+            (wait_block_reply limits h task most) ≡ result }
     {
-        each!(self, core => core.wait_in_range(task, out))
+        each!(self, core => core.good_ahead(task, most))
     }
 
     /// Registers the task `child` in `Wait`, which the mode of `parent` has to hold, at the first

@@ -2,13 +2,13 @@
 ghost use Rattle.std.specs.Prelude.{◌≡◌, ◌≤◌, [], ◌∷◌, OnErr, length};
 ghost use Rattle.phase_base.specs.declared.limits.TheConstants.{SENDS_MAX};
 ghost use Rattle.phase_accum.specs.Parcels.{StandsForSends};
-ghost use Rattle.phase_accum.specs.Sends.{AreSends, IsSend};
+ghost use Rattle.phase_accum.specs.Sends.{AreSends};
 ghost use Rattle.phase_history.specs.Histories.{History};
 ghost use Rattle.phase_history.specs.Replies.{signal_reply, after_signal};
 ghost use Rattle.phase_core.specs.Cores.{StandsFor};
 
 use phase_accum::{Accumulate, Pending, Single};
-use phase_core::{PhaserCore, SignalRefusal, one_send};
+use phase_core::{PhaserCore, SignalRefusal};
 
 /// Makes the pending sends of a task that holds these. It takes no memory.
 pub fn held<A: Accumulate>(values: &[i64]) -> Pending<A>
@@ -47,28 +47,5 @@ pub fn signal_sends<A: Accumulate>(
     match core.signal(task, held(values), single) {
         Ok(phase) => Ok(phase),
         Err(refused) => Err(refused.0),
-    }
-}
-
-/// Signals the task's phase with this one send and a single or none, and answers that phase. It
-/// takes no memory.
-pub fn signal_one<A: Accumulate>(
-    core: &mut PhaserCore<A>,
-    task: u64,
-    value: i64,
-    single: Option<Single>,
-) -> Result<u64, SignalRefusal>
-    requires { IsSend value }
-    ensures reply { (h : History) → StandsFor A.operation core.old h
-        → signal_reply core.old.limits h task ((value ∷ []) ∷ []) single ≡ result }
-    ensures after { (h : History) → StandsFor A.operation core.old h
-        → StandsFor A.operation core.new (after_signal result task ((value ∷ []) ∷ []) single h) }
-
-    ensures limits { core.new.limits ≡ core.old.limits }
-    ensures err { OnErr result (core.new ≡ core.old) }
-{
-    match core.signal(task, one_send(value), single) {
-        Ok(phase) => Ok(phase),
-        Err((refusal, _)) => Err(refusal),
     }
 }

@@ -1,8 +1,8 @@
 pub mod Admitting
 pub mod Boarded
 pub mod CoreSteps
-pub mod InRangeBlocks
-mod InRangeExamples
+pub mod GoodAhead
+mod GoodAheadExamples
 pub mod Joining
 pub mod JoiningNow
 pub mod LeastCounts

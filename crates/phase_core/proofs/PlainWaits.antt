@@ -4,7 +4,7 @@ use Rattle.std.specs.Prelude.{is_some, slice_range, IsSome, slice_index_or}
 use Rattle.std.specs.List.{All, range_with_len}
 use Rattle.std.proofs.lemmas.Bool.{cases_eq, cases_lt, le-leb, true≢false, not-false}
 use Rattle.std.proofs.lemmas.Option.{same_Some}
-use Rattle.std.proofs.lemmas.List.{append_assoc, drop_more, get_or-drop, length-drop, length-map, length-take, map_more, take-append-le, take-map, take-take}
+use Rattle.std.proofs.lemmas.List.{append_assoc, drop_more, get_or-drop, length-drop, length-map, length-take, map_more}
 use Rattle.std.proofs.Math.Seq.{set-append_seam}
 use Rattle.circular_buffer.specs.Buffer.{Buffer}
 use Rattle.phase_history.proofs.Each.{Each, least_low, least_or_high}
@@ -366,11 +366,3 @@ pub one_written : {Y : Type 0} (f : ℤ → Y) (xs : List ℤ) (s : ℕ) (d : Y)
     → slice_index_or out 0 d ≡ f (get_or xs s (pos 0))
 one_written f xs s d out within is =
     ap (λ l. slice_index_or l 0 d) (is ∙ ap (λ l. map f (take 1 l) ++ []) (drop_more xs s (pos 0) within))
-
--- the first of the values that were written
-pub first_written : {Y : Type 0} (f : ℤ → Y) (xs : List ℤ) (n k : ℕ) (rest out : List Y)
-    → out ≡ map f (take n xs) ++ rest → k ≤ n → n ≤ length xs → take k out ≡ map f (take k xs)
-first_written f xs n k rest out is few within =
-    ap (take k) is
-    ∙ take-append-le k (map f (take n xs)) rest (omega (arith, length-map (take n xs) f, length-take n xs))
-    ∙ take-map f k (take n xs) ∙ ap (map f) (take-take k n xs few)

@@ -1,5 +1,5 @@
 -- Blocks of phases: what their sends are, and the rows of a block's signals by the ring.
-use Rattle.std.specs.Prelude.{◌≡◌, ℕ, zero, ◌+◌, ◌≤◌, ℤ, List, [], ◌∷◌, ◌++◌, length, map, Option, Some, None, Bool, Result, Ok, Err, drop, slice_range}
+use Rattle.std.specs.Prelude.{◌≡◌, ℕ, ◌+◌, ◌≤◌, ℤ, List, [], ◌∷◌, ◌++◌, length, map, Option, Some, None, Bool, Result, Ok, Err, drop, slice_range}
 use Rattle.std.specs.List.{take_while}
 use Rattle.phase_base.specs.Limits.{Limits}
 use Rattle.phase_base.specs.declared.entry.Entry.{Entry}
@@ -12,9 +12,7 @@ use Rattle.phase_history.specs.declared.got.GotBlock.{GotBlock}
 use Rattle.phase_history.specs.declared.got.GotBlock.TheVariants as got
 use Rattle.phase_history.specs.declared.refusal.WaitRefusal.{WaitRefusal}
 use Rattle.phase_history.specs.declared.refusal.SignalRefusal.{SignalRefusal}
-use Rattle.phase_history.specs.Histories.{History}
 use Rattle.phase_history.specs.Refusals.{phase_rows}
-use Rattle.phase_history.specs.Replies.{after_wait_block}
 use Rattle.phase_ring.specs.Slots.{Slot}
 use Rattle.phase_ring.specs.Rings.{Ring, slot_at}
 use Rattle.phase_ring.specs.Boards.{IsRingAt}
@@ -68,18 +66,13 @@ written (Ok (got.Values phase count)) stream old =
 written (Ok got.Ended) stream old = old
 written (Err refusal) stream old = old
 
--- ---- a wait for a block that goes no further than the values in range
+-- ---- the values in range that come next
 
--- what it is answered, where a wait for the block would be answered this: of the values those
--- before the first that is too big
+-- how many do, where a wait for a block would be answered this: those before the first that is too
+-- big
 abbrev pub before_too_big : List Outcome → Result GotBlock WaitRefusal
     → Result GotBlock WaitRefusal
 before_too_big stream (Ok (got.Values phase count)) =
     let values = slice_range stream phase (phase + count) in
     Ok (got.Values phase (length (take_while is_not_too_big values)))
 before_too_big stream reply = reply
-
--- the history after it: where it got no value it is no event
-abbrev pub after_in_range : Result GotBlock WaitRefusal → ℕ → History → History
-after_in_range (Ok (got.Values phase zero)) task h = h
-after_in_range reply task h = after_wait_block reply task h

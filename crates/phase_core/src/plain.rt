@@ -2,7 +2,7 @@
 ghost use Rattle.std.specs.Prelude.{◌≡◌, ◌+◌, ◌≤◌, [], false, length, IfOk};
 ghost use Rattle.phase_core.specs.Plain.{left_roster};
 
-pub mod in_range;
+pub mod ahead;
 pub mod values;
 pub mod waiting;
 

@@ -1,5 +1,5 @@
 //! Waits on a phaser, for one phase and for phases in a row.
-ghost use Rattle.std.specs.Prelude.{◌≡◌, ℕ, ◌+◌, ◌<◌, ◌≤◌, [], ◌∷◌, OnErr, Ok, length, take, slice_range};
+ghost use Rattle.std.specs.Prelude.{◌≡◌, ℕ, ◌≤◌, OnErr, Ok, length, take};
 ghost use Rattle.std.specs.List.{All};
 ghost use Rattle.phase_accum.specs.declared.outcome.Outcome.{Outcome};
 ghost use Rattle.phase_accum.specs.Values.{IsInRange};
@@ -7,7 +7,7 @@ ghost use Rattle.phase_history.specs.Histories.{History};
 ghost use Rattle.phase_history.specs.Phases.{stream_of};
 ghost use Rattle.phase_history.specs.Replies.{wait_reply, after_wait, wait_block_reply, after_wait_block};
 ghost use Rattle.phase_core.specs.Cores.{StandsFor};
-ghost use Rattle.phase_core.specs.Blocks.{written, before_too_big, after_in_range};
+ghost use Rattle.phase_core.specs.Blocks.{written, before_too_big};
 
 use crate::phaser_core::PhaserCore;
 use phase_accum::{Accumulate, Outcome};
@@ -56,41 +56,20 @@ impl<A: Accumulate> PhaserCore<A> {
         self.slots().wait_block(task, out)
     }
 
-    /// Waits for a block as `wait_block` does, but goes no further than the values in range: it
-    /// gets those before the first that is too big, and none where the task's own phase has it.
-    /// What stands in the places behind them is not promised. It never blocks, and takes no memory.
-    pub fn wait_in_range(&mut self, task: u64, out: &mut [Outcome]) -> Result<GotBlock, WaitRefusal>
-        ensures reply { (h : History) → StandsFor A.operation self.old h
+    /// Answers how many complete phases in range come next for a task, of at most so many: those
+    /// before the first whose value is too big, and none where the task's own phase has it; or that
+    /// no more will come, or the refusal that a wait for so many would get.
+    ///
+    /// It changes nothing, takes no memory and never blocks. A wait for as many as it answers, if
+    /// there are some, gets just these.
+    pub fn good_ahead(&self, task: u64, most: usize) -> Result<GotBlock, WaitRefusal>
+        ensures { (h : History) → StandsFor A.operation self.now h
             → before_too_big (stream_of A.operation.value h)
-            (wait_block_reply self.old.limits h task (length out.old)) ≡ result }
-        ensures after { (h : History) → StandsFor A.operation self.old h
-            → StandsFor A.operation self.new (after_in_range result task h) }
-        ensures out { (phase count : ℕ) → result ≡ Ok (GotBlock.Values phase count)
-            → (h : History) → StandsFor A.operation self.old h
-            → take count out.new
-            ≡ slice_range (stream_of A.operation.value h) phase (phase + count) }
-        ensures few { (phase count : ℕ) → result ≡ Ok (GotBlock.Values phase count)
-            → count ≤ length out.old }
-
-        // Where it got values, it is a wait for just so many.
-        ensures block { (phase count : ℕ) → result ≡ Ok (GotBlock.Values phase count)
-            → 0 < count → (h : History) → StandsFor A.operation self.old h
-            → wait_block_reply self.old.limits h task count ≡ result }
-        // Where it got none, the value of the task's phase is too big.
-        ensures too_big { (phase : ℕ) → result ≡ Ok (GotBlock.Values phase 0)
-            → (h : History) → StandsFor A.operation self.old h
-            → (wait_block_reply self.old.limits h task 1 ≡ Ok (GotBlock.Values phase 1))
-            × (slice_range (stream_of A.operation.value h) phase (phase + 1) ≡ Outcome.TooBig ∷ [])
-            × (self.new ≡ self.old) }
-
-        ensures limits { self.new.limits ≡ self.old.limits }
-        ensures err { OnErr result (self.new ≡ self.old) }
+            (wait_block_reply self.now.limits h task most) ≡ result }
     {
         if self.plain.is_on {
-            return self
-                .plain
-                .wait_in_range::<A>(self.slots.limits(), task, out);
+            return self.plain.good_ahead::<A>(self.slots.limits(), task, most);
         }
-        self.slots().wait_in_range(task, out)
+        self.slots.good_ahead(task, most)
     }
 }

@@ -220,24 +220,19 @@ impl<A: Accumulate> Board<A> {
         self.move_waiter(phase, phase + count as u64);
     }
 
-    /// Writes the values of phases in a row before the first that is too big, and returns how many
-    /// there are. At most so many phases are looked at, the first this one of a waiter and all
-    /// complete. The places behind the values stay.
-    pub fn write_in_range(&self, phase: u64, most: usize, out: &mut [Outcome]) -> usize
+    /// Counts the values of phases in a row before the first that is too big. At most so many
+    /// phases are looked at, the first this one of a waiter and all complete.
+    pub fn good_ahead(&self, phase: u64, most: usize) -> usize
         requires invariant { IsBoard A.operation self.now }
         requires may { MayWait phase (phase + most) self.now }
-        requires room { most ≤ length out.old }
-        ensures count { let values = block_values A.operation self.now.ring phase most in
+        ensures { let values = block_values A.operation self.now.ring phase most in
             result ≡ length (take_while is_not_too_big values) }
-        ensures out { out.new
-            ≡ block_values A.operation self.now.ring phase result ++ drop result out.old }
     {
         for i in 0..most {
             let outcome = self.ring.value(phase + i as u64);
             if let Outcome::TooBig = outcome {
                 return i;
             }
-            out[i] = outcome;
         }
         most
     }

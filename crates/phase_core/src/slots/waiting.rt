@@ -1,5 +1,5 @@
 //! Waits on a phaser, for one phase and for phases in a row.
-ghost use Rattle.std.specs.Prelude.{◌≡◌, ℕ, ◌+◌, ◌<◌, ◌≤◌, [], ◌∷◌, OnErr, Ok, length, take, slice_range};
+ghost use Rattle.std.specs.Prelude.{◌≡◌, ℕ, ◌≤◌, OnErr, Ok, length, take};
 ghost use Rattle.std.specs.List.{All};
 ghost use Rattle.phase_accum.specs.declared.outcome.Outcome.{Outcome};
 ghost use Rattle.phase_accum.specs.Values.{IsInRange};
@@ -7,7 +7,7 @@ ghost use Rattle.phase_history.specs.Histories.{History};
 ghost use Rattle.phase_history.specs.Phases.{stream_of};
 ghost use Rattle.phase_history.specs.Replies.{wait_reply, after_wait, wait_block_reply, after_wait_block};
 ghost use Rattle.phase_core.specs.Cores.{StandsFor};
-ghost use Rattle.phase_core.specs.Blocks.{written, before_too_big, after_in_range};
+ghost use Rattle.phase_core.specs.Blocks.{written, before_too_big};
 
 use crate::refusal_rows;
 use crate::slot_core::SlotCore;
@@ -93,35 +93,12 @@ impl<A: Accumulate> SlotCore<A> {
         })
     }
 
-    /// Waits for a block as `wait_block` does, but goes no further than the values in range: it
-    /// gets those before the first that is too big, and none where the task's own phase has it.
-    /// What stands in the places behind them is not promised. It never blocks, and takes no memory.
-    pub fn wait_in_range(&mut self, task: u64, out: &mut [Outcome]) -> Result<GotBlock, WaitRefusal>
-        ensures reply { (h : History) → StandsFor A.operation self.old h
+    /// How many complete phases in range come next for a task, of at most so many, as
+    /// `PhaserCore::good_ahead` tells.
+    pub fn good_ahead(&self, task: u64, most: usize) -> Result<GotBlock, WaitRefusal>
+        ensures { (h : History) → StandsFor A.operation self.now h
             → before_too_big (stream_of A.operation.value h)
-            (wait_block_reply self.old.limits h task (length out.old)) ≡ result }
-        ensures after { (h : History) → StandsFor A.operation self.old h
-            → StandsFor A.operation self.new (after_in_range result task h) }
-        ensures out { (phase count : ℕ) → result ≡ Ok (GotBlock.Values phase count)
-            → (h : History) → StandsFor A.operation self.old h
-            → take count out.new
-            ≡ slice_range (stream_of A.operation.value h) phase (phase + count) }
-        ensures few { (phase count : ℕ) → result ≡ Ok (GotBlock.Values phase count)
-            → count ≤ length out.old }
-
-        // Where it got values, it is a wait for just so many.
-        ensures block { (phase count : ℕ) → result ≡ Ok (GotBlock.Values phase count)
-            → 0 < count → (h : History) → StandsFor A.operation self.old h
-            → wait_block_reply self.old.limits h task count ≡ result }
-        // Where it got none, the value of the task's phase is too big.
-        ensures too_big { (phase : ℕ) → result ≡ Ok (GotBlock.Values phase 0)
-            → (h : History) → StandsFor A.operation self.old h
-            → (wait_block_reply self.old.limits h task 1 ≡ Ok (GotBlock.Values phase 1))
-            × (slice_range (stream_of A.operation.value h) phase (phase + 1) ≡ Outcome.TooBig ∷ [])
-            × (self.new ≡ self.old) }
-
-        ensures limits { self.new.limits ≡ self.old.limits }
-        ensures err { OnErr result (self.new ≡ self.old) }
+            (wait_block_reply self.now.limits h task most) ≡ result }
     {
         let Some(entry) = self.registry.get(task) else {
             return Err(WaitRefusal::NoTask);
@@ -132,8 +109,7 @@ impl<A: Accumulate> SlotCore<A> {
         let done = self.board.done;
         let has_signaller = self.has_signaller();
         let limits = self.board.limits;
-        let asked = out.len();
-        let refusal = refusal_rows::wait_refusal(limits, done, has_signaller, asked as u64, entry);
+        let refusal = refusal_rows::wait_refusal(limits, done, has_signaller, most as u64, entry);
         if let Some(refusal) = refusal {
             return Err(refusal);
         }
@@ -141,13 +117,8 @@ impl<A: Accumulate> SlotCore<A> {
         if done <= phase {
             return Ok(GotBlock::Ended);
         }
-        let complete = asked.min((done - phase) as usize);
-        let count = self.board.write_in_range(phase, complete, out) as u64;
-        if count == 0 {
-            return Ok(GotBlock::Values { phase, count: 0 });
-        }
-        self.board.move_waiter(phase, phase + count);
-        self.registry.waited(task, count);
+        let complete = most.min((done - phase) as usize);
+        let count = self.board.good_ahead(phase, complete) as u64;
         Ok(GotBlock::Values { phase, count })
     }
 }

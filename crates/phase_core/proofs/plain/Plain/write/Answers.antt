@@ -21,8 +21,8 @@ write_ones-requires-2-clause-sends g c =
 pub returns : goal.returns
 returns g c =
     let low = c.requires.low in
-    written_in_two (plain_value g.A.Accumulate.operation) c.as_slices.result.0.now
-    c.as_slices.result.1.now c.args.self.now.values.items c.args.out.now c.write_ones.new.out
-    c.write_ones-2.new.out (c.args.phase - c.args.self.now.base) c.args.count c.min-in_front.result
-    c.min-many.result c.as_slices.ensures c.min-in_front.ensures (omega (arith, c.requires.complete))
-    c.requires.room c.min-many.ensures c.write_ones.ensures c.write_ones-2.ensures
+    written_in_two c.as_slices.result.0.now c.as_slices.result.1.now c.args.self.now.values.items
+    (c.args.phase - c.args.self.now.base) c.args.count c.min-in_front.result c.min-many.result
+    c.as_slices.ensures c.min-in_front.ensures (omega (arith, c.requires.complete))
+    c.min-many.ensures (plain_value g.A.Accumulate.operation) c.args.out.now c.write_ones.new.out
+    c.write_ones-2.new.out c.requires.room c.write_ones.ensures c.write_ones-2.ensures

@@ -1,28 +1,23 @@
--- A wait for a block that goes no further than the values in range, on one stream: 1, 2, one that
--- is too big, 3, and a phase that has no value. The replies were found by hand.
+-- How many values in range come next on one stream: 1, 2, one that is too big, 3, and a phase that
+-- has no value. The replies were found by hand.
 use Rattle.std.proofs.Common.{◌≡◌, List, [], ◌∷◌, Ok, Err, pos, refl}
 use Rattle.phase_accum.specs.declared.outcome.Outcome.{Outcome}
 use Rattle.phase_accum.specs.declared.outcome.Outcome.TheVariants.{Value, Empty, TooBig}
-use Rattle.phase_history.specs.declared.event.Event.TheVariants.{Made, Waited}
 use Rattle.phase_history.specs.declared.got.GotBlock.TheVariants as got
 use Rattle.phase_history.specs.declared.refusal.WaitRefusal.TheVariants as wait
-use Rattle.phase_history.specs.Histories.{History}
-use Rattle.phase_core.specs.Blocks.{before_too_big, after_in_range}
+use Rattle.phase_core.specs.Blocks.{before_too_big}
 
 abbrev values : List Outcome
 values = Value (pos 1) ∷ Value (pos 2) ∷ TooBig ∷ Value (pos 3) ∷ Empty ∷ []
 
-abbrev made : History
-made = Made 0 ∷ []
-
--- of four it gets the two in front, and of one that one
+-- of four the two in front, and of one that one
 stops_before : before_too_big values (Ok (got.Values 0 4)) ≡ Ok (got.Values 0 2)
 stops_before = refl
 
 fewer : before_too_big values (Ok (got.Values 0 1)) ≡ Ok (got.Values 0 1)
 fewer = refl
 
--- where the first is too big it gets none
+-- none where the first is too big
 none_there : before_too_big values (Ok (got.Values 2 3)) ≡ Ok (got.Values 2 0)
 none_there = refl
 
@@ -35,16 +30,3 @@ ended = refl
 
 refused : before_too_big values (Err wait.NotYet) ≡ Err wait.NotYet
 refused = refl
-
--- only a wait that got values is an event
-is_event : after_in_range (Ok (got.Values 0 2)) 0 made ≡ Waited 0 2 ∷ made
-is_event = refl
-
-is_no_event : after_in_range (Ok (got.Values 2 0)) 0 made ≡ made
-is_no_event = refl
-
-ended_is_none : after_in_range (Ok got.Ended) 0 made ≡ made
-ended_is_none = refl
-
-refused_is_none : after_in_range (Err wait.NotYet) 0 made ≡ made
-refused_is_none = refl

@@ -2,10 +2,10 @@
 use Rattle.std.proofs.Common.{◌≡◌, ◌+◌, ◌<◌, ◌≤◌, sym, ap, ◌∙◌, arith}
 use Rattle.phase_ring.specs.Blocks.{value_at, is_not_too_big}
 use Rattle.phase_ring.proofs.Slots.{sealed-low}
-use Rattle.phase_ring.proofs.Blocks.{fills, counts_in_range, fits_one_more, not_too_big, value_at-slot, block-within}
-use Rattle.phase_ring.proofs.board.Board.write_in_range.Given.{Over}
-use Rattle.phase_ring.proofs.board.Board.write_in_range.Goals.{After-value-outcome}
-use Rattle.phase_ring.proofs.board.Board.write_in_range.Goals as goal
+use Rattle.phase_ring.proofs.Blocks.{counts_in_range, fits_one_more, not_too_big, value_at-slot, block-within}
+use Rattle.phase_ring.proofs.board.Board.good_ahead.Given.{Over}
+use Rattle.phase_ring.proofs.board.Board.good_ahead.Goals.{After-value-outcome}
+use Rattle.phase_ring.proofs.board.Board.good_ahead.Goals as goal
 
 pub value-outcome-requires : goal.value-outcome-requires
 value-outcome-requires g c =
@@ -32,25 +32,21 @@ read g c =
 pub loop-i-preserved : goal.loop-i-preserved
 loop-i-preserved g c =
     let f = value_at g.A.Accumulate.operation c.args.self.now.ring in
-    let inside : c.loop-i.i < c.args.most = c.loop-i-test.true in
-    let room = c.requires.room in
-    let is = read g (goal.at.loop-i-preserved g c).After-value-outcome in (
-      fills f c.args.phase c.loop-i.i c.args.out.now c.loop-i.out c.value-outcome.result (omega arith) c.loop-i.invariant.0 is,
-      fits_one_more f c.args.phase c.loop-i.i c.loop-i.invariant.1
-          (ap is_not_too_big (sym is) ∙ not_too_big c.value-outcome.result c.in_default.not-TooBig),
-    )
+    let is = read g (goal.at.loop-i-preserved g c).After-value-outcome in
+    fits_one_more f c.args.phase c.loop-i.i c.loop-i.invariant
+    (ap is_not_too_big (sym is) ∙ not_too_big c.value-outcome.result c.in_default.not-TooBig)
 
-pub returns-in-TooBig-clause-count : goal.returns-in-TooBig-clause-count
-returns-in-TooBig-clause-count g c =
+pub returns-in-TooBig : goal.returns-in-TooBig
+returns-in-TooBig g c =
     let f = value_at g.A.Accumulate.operation c.args.self.now.ring in
     let inside : c.loop-i.i < c.args.most = c.loop-i-test.true in
-    let is = read g (goal.at.returns-in-TooBig-clause-count g c).After-value-outcome in
-    counts_in_range f c.args.phase c.args.most c.loop-i.i (omega arith) c.loop-i.invariant.1
+    let is = read g (goal.at.returns-in-TooBig g c).After-value-outcome in
+    counts_in_range f c.args.phase c.args.most c.loop-i.i (omega arith) c.loop-i.invariant
     (λ more. ap is_not_too_big (sym is ∙ c.in-TooBig.is))
 
-pub returns-clause-count : goal.returns-clause-count
-returns-clause-count g c =
+pub returns : goal.returns
+returns g c =
     let f = value_at g.A.Accumulate.operation c.args.self.now.ring in
     let past : c.args.most ≤ c.loop-i.i = c.loop-i-test.false in
     counts_in_range f c.args.phase c.args.most c.args.most (omega arith)
-    (λ k below. c.loop-i.invariant.1 k (omega arith)) (λ more. absurd (omega arith))
+    (λ k below. c.loop-i.invariant k (omega arith)) (λ more. absurd (omega arith))

@@ -1,15 +1,15 @@
--- What a wait for a block is answered that goes no further than the values in range.
-use Rattle.std.proofs.Common.{◌≡◌, ℕ, zero, suc, ◌+◌, ◌-◌, ◌<◌, ◌≤◌, min, ℤ, List, [], ◌∷◌, ◌++◌, Result, Ok, Err, length, map, take, drop, slice_index_or, refl, sym, ap, ◌∙◌, arith}
+-- How many values in range come next, and what a wait for so many is answered.
+use Rattle.std.proofs.Common.{◌≡◌, ℕ, zero, suc, ◌+◌, ◌-◌, ◌<◌, ◌≤◌, min, ℤ, List, [], ◌∷◌, ◌++◌, Result, Ok, Err, length, take, drop, slice_index_or, refl, sym, ap, cond, ◌∙◌, arith}
 use Rattle.std.specs.Prelude.{slice_range}
-use Rattle.std.specs.List.{range_with_len, take_while}
-use Rattle.std.proofs.lemmas.List.{drop_more, length-take, length-map, take-append-le}
-use Rattle.std.proofs.lemmas.List.FromFn.{length-map-range_with_len, length-range_with_len, take-map-range_with_len}
-use Rattle.std.proofs.lemmas.List.Folds.{length-prefix_len}
+use Rattle.std.specs.List.{prefix_len, range_with_len, take_while}
+use Rattle.std.proofs.lemmas.List.{drop_more, length-take, length-map}
+use Rattle.std.proofs.lemmas.List.FromFn.{length-range_with_len}
+use Rattle.std.proofs.lemmas.List.Folds.{length-prefix_len, prefix_len-append}
+use Rattle.std.proofs.lemmas.Bool.{eq-eqb, ne_eqb}
 use Rattle.std.proofs.lemmas.List.Sums.{prefix_len-le-length, take_while-cons}
 use Rattle.phase_base.specs.Limits.{Limits}
 use Rattle.phase_accum.specs.declared.outcome.Outcome.{Outcome}
 use Rattle.phase_accum.specs.declared.outcome.Outcome.TheVariants.{Value, Empty, TooBig}
-use Rattle.phase_history.specs.declared.event.Event.TheVariants.{Waited}
 use Rattle.phase_history.specs.declared.got.GotBlock.{GotBlock}
 use Rattle.phase_history.specs.declared.got.GotBlock.TheVariants as got
 use Rattle.phase_history.specs.declared.refusal.WaitRefusal.{WaitRefusal}
@@ -17,36 +17,13 @@ use Rattle.phase_history.specs.Histories.{History, done_of, wait_phase}
 use Rattle.phase_history.specs.Phases.{stream_of, value_of_phase}
 use Rattle.phase_history.specs.Replies.{wait_block_reply, got_block_at, refused_or}
 use Rattle.phase_history.proofs.BlockAnswers.{block_tells, wait_refusal-fewer}
-use Rattle.phase_core.specs.Blocks.{before_too_big, after_in_range, is_not_too_big}
+use Rattle.phase_core.specs.Blocks.{before_too_big, is_not_too_big}
 use Rattle.phase_core.proofs.WaitCore.{got_block_values}
 
 -- the values before the first that is too big are no more than all
-pub in_range-few : (xs : List Outcome) → length (take_while is_not_too_big xs) ≤ length xs
-in_range-few xs =
+pub good-few : (xs : List Outcome) → length (take_while is_not_too_big xs) ≤ length xs
+good-few xs =
     omega (arith, length-prefix_len is_not_too_big xs, prefix_len-le-length is_not_too_big xs)
-
--- the first places have the values that were written there
-pub take-written : (f : ℕ → Outcome) (phase count : ℕ) (rest out : List Outcome)
-    → out ≡ map f (range_with_len phase count) ++ rest
-    → take count out ≡ map f (range_with_len phase count)
-take-written f phase count rest out is =
-    let xs = map f (range_with_len phase count) in
-    let long : length xs ≡ count = length-map-range_with_len f phase count in
-    ap (take count) is ∙ take-append-le count xs rest (omega arith)
-    ∙ take-map-range_with_len f phase count count (omega arith)
-
--- the answer with so many values
-abbrev OkBlock : ℕ → ℕ → Result GotBlock WaitRefusal
-OkBlock phase count = Ok (got.Values phase count)
-
--- the same of what an answer names
-pub in_places_of : (stream new : List Outcome) (p k phase count : ℕ)
-    → OkBlock p k ≡ OkBlock phase count → take k new ≡ slice_range stream p (p + k)
-    → take count new ≡ slice_range stream phase (phase + count)
-in_places_of stream new p k phase count is there =
-    let p_is : p ≡ phase = (cc) in
-    let k_is : k ≡ count = (cc) in
-    rw (p_is, k_is) at there
 
 -- ---- the reply
 
@@ -88,16 +65,16 @@ fewer_got limits h task n phase complete count reply some few =
     ∙ ap (λ k. Ok (got.Values w k)) all ∙ ap (λ p. Ok (got.Values p count)) (sym t.phase_is)
 
 -- where it got values, it is a wait for just so many
-pub in_range_block : (stream : List Outcome) (limits : Limits) (h : History)
+pub good_block : (stream : List Outcome) (limits : Limits) (h : History)
     (task n phase count : ℕ)
     → before_too_big stream (wait_block_reply limits h task n) ≡ Ok (got.Values phase count)
     → 0 < count → wait_block_reply limits h task count ≡ Ok (got.Values phase count)
-in_range_block stream limits h task n phase count reply some =
+good_block stream limits h task n phase count reply some =
     let b = got_before stream (wait_block_reply limits h task n) phase count reply in
     let many = b.count_is in
     let xs = slice_range stream phase (phase + b.complete) in
     fewer_got limits h task n phase b.complete count b.replied some
-    (omega (arith, in_range-few xs, length-take (phase + b.complete - phase) (drop phase stream)))
+    (omega (arith, good-few xs, length-take (phase + b.complete - phase) (drop phase stream)))
 
 head-too_big : (k : ℕ) (x : Outcome) (rest : List Outcome) → 0 < k
     → length (take_while is_not_too_big (take k (x ∷ rest))) ≡ 0 → x ≡ TooBig
@@ -109,12 +86,12 @@ head-too_big (suc k) Empty rest some none =
 head-too_big (suc k) TooBig rest some none = refl
 
 -- where it got none, the first value is too big
-pub in_range_none : (value : List ℤ → Outcome) (limits : Limits) (h : History) (task n phase : ℕ)
+pub none_good : (value : List ℤ → Outcome) (limits : Limits) (h : History) (task n phase : ℕ)
     → before_too_big (stream_of value h) (wait_block_reply limits h task n)
     ≡ Ok (got.Values phase 0)
     → (wait_block_reply limits h task 1 ≡ Ok (got.Values phase 1))
     × (slice_range (stream_of value h) phase (phase + 1) ≡ TooBig ∷ [])
-in_range_none value limits h task n phase reply =
+none_good value limits h task n phase reply =
     let xs = stream_of value h in
     let b = got_before xs (wait_block_reply limits h task n) phase 0 reply in
     let t = block_tells limits h task n phase b.complete b.replied in
@@ -134,9 +111,26 @@ in_range_none value limits h task n phase reply =
           ∙ ap (take 1) split ∙ ap (λ y. y ∷ []) first,
     )
 
--- ---- the history after it
+-- ---- in two lists, one behind the other
 
-pub after_in_range-some : (phase count task : ℕ) (h : History) → 0 < count
-    → after_in_range (Ok (got.Values phase count)) task h ≡ Waited task count ∷ h
-after_in_range-some phase zero task h some = absurd (omega arith)
-after_in_range-some phase (suc count) task h some = refl
+-- where some of the first is too big, no more count
+pub good_in_first : (xs ys : List Outcome) → length (take_while is_not_too_big xs) < length xs
+    → length (take_while is_not_too_big (xs ++ ys)) ≡ length (take_while is_not_too_big xs)
+good_in_first xs ys less =
+    let n = prefix_len is_not_too_big xs in
+    let is = length-prefix_len is_not_too_big xs in
+    length-prefix_len is_not_too_big (xs ++ ys) ∙ prefix_len-append is_not_too_big xs ys
+    ∙ ap (λ b. cond b (length xs + prefix_len is_not_too_big ys) n)
+    (ne_eqb n (length xs) (λ same. omega arith)) ∙ sym is
+
+-- and else those of the second behind them
+pub good_in_second : (xs ys : List Outcome) → length (take_while is_not_too_big xs) ≡ length xs
+    → length (take_while is_not_too_big (xs ++ ys))
+    ≡ length xs + length (take_while is_not_too_big ys)
+good_in_second xs ys all =
+    let n = prefix_len is_not_too_big xs in
+    let is = length-prefix_len is_not_too_big xs in
+    length-prefix_len is_not_too_big (xs ++ ys) ∙ prefix_len-append is_not_too_big xs ys
+    ∙ ap (λ b. cond b (length xs + prefix_len is_not_too_big ys) n)
+    (eq-eqb n (length xs) (sym is ∙ all))
+    ∙ ap (λ k. length xs + k) (sym (length-prefix_len is_not_too_big ys))
