@@ -2,7 +2,8 @@
 use Rattle.std.specs.Prelude.{◌≡◌, ℕ, ◌+◌, true, Option, Some, None, is_ok, Result}
 use Rattle.turn_lock.specs.declared.seat.Seat.{Seat}
 use Rattle.turn_lock.specs.Seats.{seat_place, seat_view}
-use Rattle.phase_shared.specs.Phasers.{Entry, Got, Operation, Parcel, SignalRefusal, entry_of, members_of, mode_signals, mode_waits}
+use Rattle.phase_shared.specs.Phasers.{Entry, Got, Operation, Outcome, Parcel, SignalRefusal, entry_of, members_of, mode_signals, mode_waits}
+use Rattle.phase_history.specs.declared.got.Got.TheVariants.{Value}
 use Rattle.phase_history.specs.declared.refusal.SignalRefusal.TheVariants.{NoTask}
 use Rattle.phase_shared.specs.Calls.{IsCall, HeldAfter, SignalsAndMayWait}
 use Rattle.phase_shared.specs.Entries.{entry_after_both, entry_after_next}
@@ -64,3 +65,9 @@ module _ {A K : Type 0} (op : Operation A) (allows : K → Allows) where
       (result : Result (ℕ × Option Got) SignalRefusal) : Type 0 where
     pub call : IsTakenBack terms old new result
     pub held : HeldAfter op (is_ok result) old.held new.held
+
+-- what was got is a value: a phase that was asked for never ends as one that no signaller has
+pub record IsValue (got : Option Got) : Type 0 where
+  pub phase : ℕ
+  pub outcome : Outcome
+  pub is : got ≡ Some (Value phase outcome)

@@ -1,10 +1,10 @@
 //! A registration that has asked for its next phase, between two calls.
-ghost use Rattle.std.specs.Prelude.{◌≡◌, [], true, Some, None, Ok, IfOk, IfErr};
+ghost use Rattle.std.specs.Prelude.{◌≡◌, ◌⊎◌, [], true, Some, None, Ok, IfOk, IfErr};
 ghost use Rattle.phase_base.specs.Members.{entry_of};
 ghost use Rattle.phase_base.specs.Modes.{mode_signals, mode_waits};
 ghost use Rattle.phase_accum.specs.Parcels.{Parcel, StandsForSends};
 ghost use Rattle.phase_history.specs.Histories.{members_of};
-ghost use Rattle.phase_shared.specs.Asked.{HasGone, HasTakenBack, entry_gone, entry_signalled};
+ghost use Rattle.phase_shared.specs.Asked.{HasGone, HasTakenBack, IsValue, entry_gone, entry_signalled};
 ghost use Rattle.phase_shared.specs.Calls.{MaySignal};
 ghost use Rattle.phase_shared.specs.Regs.{IsGoodOn, IsReg, reg_state, phaser_lock, phaser_terms};
 ghost use Rattle.phase_shared.specs.Servings.{IsRequestOf};
@@ -224,6 +224,7 @@ impl<A: Accumulate, K: SignalRule> Asked<A, K> {
 
         ensures ok { IfOk result (λ gone. HasGone A.operation K.allows (phaser_terms phaser.now)
             self gone.0 (Ok gone.1)) }
+        ensures value { IfOk result (λ gone. IsValue gone.1.got) }
         ensures err { IfErr result (λ asked. asked ≡ self) }
     {
         let Asked {
@@ -261,6 +262,7 @@ impl<A: Accumulate, K: SignalRule> Asked<A, K> {
 
         ensures ok { IfOk result (λ gone. HasGone A.operation K.allows (phaser_terms phaser.now)
             self gone.0 gone.1) }
+        ensures value { IfOk result (λ gone. IfOk gone.1 (λ next. IsValue next.got)) }
         ensures err { IfErr result (λ asked. asked.0 ≡ self) }
     {
         let Asked {
@@ -308,6 +310,8 @@ impl<A: Accumulate, K: SignalRule> Asked<A, K> {
 
         ensures ok { IfOk result (λ back. HasTakenBack A.operation K.allows
             (phaser_terms phaser.now) self back.0 back.1) }
+        ensures value { IfOk result (λ back. IfOk back.1 (λ made. (made.1 ≡ None)
+            ⊎ IsValue made.1)) }
         ensures err { IfErr result (λ asked. asked ≡ self) }
     {
         let Asked {

@@ -7,11 +7,11 @@ ghost use Rattle.phase_shared.specs.Entries.{entry_after_signal, entry_after_wai
 ghost use Rattle.phase_shared.specs.Blocks.{WaitsBlock, entry_after_values};
 ghost use Rattle.phase_shared.specs.Closings.{unclosed};
 
-use crate::patience::Patience;
 use crate::phaser::Phaser;
 use crate::reg::Reg;
 use crate::rule::SignalRule;
-use crate::stopped::{self, Stopped};
+use crate::stopped::Stopped;
+use crate::until::Until;
 use phase_accum::{Accumulate, Outcome, Single};
 use phase_core::{Got, GotBlock, SignalRefusal, WaitRefusal};
 use std::sync::Wait;
@@ -56,20 +56,10 @@ impl<A: Accumulate, K: SignalRule> Reg<A, K> {
             (StandsForSends A.operation self.new.held [] × (self.new.held.count ≡ 0)) }
         ensures held { OnErr result (self.new.held ≡ self.old.held) }
     {
-        let patience = Patience::new();
-        let named = &single;
-        for _ in rt.forever() {
-            let is_closed = phaser.is_closed();
-            let tried = match self.try_signal(phaser, *named) {
-                Ok(phase) => return Ok(phase),
-                Err(tried) => tried,
-            };
-            if let Some(stopped) = stopped::ends_signal(tried, is_closed) {
-                return Err(stopped);
-            }
-            self.pause_for_room(rt, phaser, 1, &patience, tried);
+        match self.signal_until(rt, phaser, single, false, Until::Closed) {
+            Ok(answer) => Ok(answer.0),
+            Err(stopped) => Err(stopped),
         }
-        unreachable!()
     }
 
     /// Waits for its phase as `wait` does. It waits as `wait` does, but no longer than until the
@@ -91,22 +81,7 @@ impl<A: Accumulate, K: SignalRule> Reg<A, K> {
         ensures waited { result ≢ Err (Stopped.Refused WaitRefusal.NotYet) }
         ensures held { self.new.held ≡ self.old.held }
     {
-        let patience = Patience::new();
-        for _ in rt.forever() {
-            let is_closed = phaser.is_closed();
-            if !is_closed {
-                self.pause_for_phase(rt, phaser, 1);
-            }
-            let tried = match self.try_wait(phaser) {
-                Ok(got) => return Ok(got),
-                Err(tried) => tried,
-            };
-            if let Some(stopped) = stopped::ends_wait(tried, is_closed) {
-                return Err(stopped);
-            }
-            patience.snooze_if_busy(rt, &tried);
-        }
-        unreachable!()
+        self.wait_until(rt, phaser, Until::Closed)
     }
 
     /// Waits for a block as `wait_block` does. It waits as `wait_block` does, but no longer than
@@ -128,21 +103,6 @@ impl<A: Accumulate, K: SignalRule> Reg<A, K> {
         ensures waited { result ≢ Err (Stopped.Refused WaitRefusal.NotYet) }
         ensures held { self.new.held ≡ self.old.held }
     {
-        let patience = Patience::new();
-        for _ in rt.forever() {
-            let is_closed = phaser.is_closed();
-            if !is_closed {
-                self.pause_for_phase(rt, phaser, out.len() as u64);
-            }
-            let tried = match self.try_wait_block(phaser, out) {
-                Ok(got) => return Ok(got),
-                Err(tried) => tried,
-            };
-            if let Some(stopped) = stopped::ends_wait(tried, is_closed) {
-                return Err(stopped);
-            }
-            patience.snooze_if_busy(rt, &tried);
-        }
-        unreachable!()
+        self.wait_block_until(rt, phaser, out, Until::Closed)
     }
 }

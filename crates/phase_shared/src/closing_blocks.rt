@@ -5,11 +5,11 @@ ghost use Rattle.phase_shared.specs.Calls.{IsCall};
 ghost use Rattle.phase_shared.specs.Blocks.{SignalsBlock, MaySignalBlock, entry_after_block, without_lists};
 ghost use Rattle.phase_shared.specs.Closings.{unclosed};
 
-use crate::patience::Patience;
 use crate::phaser::Phaser;
 use crate::reg::Reg;
 use crate::rule::SignalRule;
-use crate::stopped::{self, Stopped};
+use crate::stopped::Stopped;
+use crate::until::Until;
 use phase_accum::{Accumulate, Pending, Single};
 use phase_core::SignalRefusal;
 use std::sync::Wait;
@@ -68,19 +68,6 @@ impl<A: Accumulate, K: SignalRule> Reg<A, K> {
         ensures waited { result ≢ Err (Stopped.Refused SignalRefusal.Ahead) }
         ensures held { self.new.held ≡ self.old.held }
     {
-        let patience = Patience::new();
-        let named = &single;
-        for _ in rt.forever() {
-            let is_closed = phaser.is_closed();
-            let tried = match self.try_signal_lists(phaser, lists, *named) {
-                Ok(phase) => return Ok(phase),
-                Err(tried) => tried,
-            };
-            if let Some(stopped) = stopped::ends_signal(tried, is_closed) {
-                return Err(stopped);
-            }
-            self.pause_for_room(rt, phaser, lists.len() as u64, &patience, tried);
-        }
-        unreachable!()
+        self.signal_lists_until(rt, phaser, lists, single, Until::Closed)
     }
 }

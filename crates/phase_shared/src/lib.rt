@@ -158,6 +158,7 @@ mod standing;
 mod stopped;
 mod tried;
 mod trying;
+mod until;
 mod waiting;
 mod waiting_blocks;
 

@@ -5,16 +5,18 @@ ghost use Rattle.phase_accum.specs.Parcels.{StandsForSends};
 ghost use Rattle.phase_shared.specs.Rule.{IsGoodAt};
 ghost use Rattle.phase_shared.specs.Regs.{phaser_lock, phaser_terms, phaser_limits};
 ghost use Rattle.phase_shared.specs.Calls.{IsCall, Signals, Waits, Registers, MaySignal, Leaves};
+ghost use Rattle.phase_shared.specs.Closings.{unclosed};
 ghost use Rattle.phase_shared.specs.Entries.{entry_stays, entry_after_signal, entry_after_wait, entry_after_both};
 ghost use Rattle.phase_shared.specs.Nexts.{SignalsAndMayWait};
 
 use crate::past::Past;
 use crate::patience::Patience;
 use crate::phaser::Phaser;
-use crate::refusal;
 use crate::reg::Reg;
 use crate::rule::SignalRule;
+use crate::stopped::{self, Stopped};
 use crate::tried::Tried;
+use crate::until::Until;
 use phase_accum::{Accumulate, Single};
 use phase_base::Mode;
 use phase_core::{Got, RegisterRefusal, SignalRefusal, WaitRefusal};
@@ -69,15 +71,42 @@ impl<A: Accumulate, K: SignalRule> Reg<A, K> {
             (StandsForSends A.operation self.new.held [] × (self.new.held.count ≡ 0)) }
         ensures held { OnErr result (self.new.held ≡ self.old.held) }
     {
+        stopped::answered(self.signal_until(rt, phaser, single, waits, Until::Answered))
+    }
+
+    // The same, where it waits until then.
+    pub(crate) fn signal_until<W: Wait>(
+        &mut self,
+        rt: &W,
+        phaser: &Phaser<A, K>,
+        single: Option<Single>,
+        waits: bool,
+        until: Until,
+    ) -> Result<(u64, Option<Got>), Stopped<SignalRefusal>>
+        requires at { self.old.at ≡ phaser_lock phaser.now }
+        requires rule { MaySignal A.operation K.allows (phaser_terms phaser.now) self.old single }
+
+        ensures call { let old = self.old in
+            let answer = unclosed SignalRefusal.Ahead result in
+            IsCall K.allows (phaser_terms phaser.now) SignalRefusal.NoTask entry_after_both
+            (SignalsAndMayWait waits A.operation (phaser_limits phaser.now) old.number old.held
+            single old.seen self.new.seen answer) old self.new answer }
+        ensures waited { result ≢ Err (Stopped.Refused SignalRefusal.Ahead) }
+        ensures closed { until ≡ Until.Answered → result ≢ Err Stopped.Closed }
+        ensures none_held { OnOk result
+            (StandsForSends A.operation self.new.held [] × (self.new.held.count ≡ 0)) }
+        ensures held { OnErr result (self.new.held ≡ self.old.held) }
+    {
         let patience = Patience::new();
         let named = &single;
         for _ in rt.forever() {
+            let is_past = until.is_past(phaser);
             let tried = match self.try_signal_and_wait(phaser, *named, waits) {
                 Ok(answer) => return Ok(answer),
                 Err(tried) => tried,
             };
-            if let Some(refusal) = refusal::of_signal(tried) {
-                return Err(refusal);
+            if let Some(stopped) = stopped::ends_signal(tried, is_past) {
+                return Err(stopped);
             }
             self.pause_for_room(rt, phaser, 1, &patience, tried);
         }
@@ -114,15 +143,39 @@ impl<A: Accumulate, K: SignalRule> Reg<A, K> {
         ensures waited { result ≢ Err WaitRefusal.NotYet }
         ensures held { self.new.held ≡ self.old.held }
     {
+        stopped::answered(self.wait_until(rt, phaser, Until::Answered))
+    }
+
+    // The same, where it waits until then.
+    pub(crate) fn wait_until<W: Wait>(
+        &mut self,
+        rt: &W,
+        phaser: &Phaser<A, K>,
+        until: Until,
+    ) -> Result<Got, Stopped<WaitRefusal>>
+        requires at { self.old.at ≡ phaser_lock phaser.now }
+
+        ensures call { let old = self.old in
+            let answer = unclosed WaitRefusal.NotYet result in
+            IsCall K.allows (phaser_terms phaser.now) WaitRefusal.NoTask entry_after_wait
+            (Waits A.operation.value (phaser_limits phaser.now) old.number old.seen self.new.seen
+            answer) old self.new answer }
+        ensures waited { result ≢ Err (Stopped.Refused WaitRefusal.NotYet) }
+        ensures closed { until ≡ Until.Answered → result ≢ Err Stopped.Closed }
+        ensures held { self.new.held ≡ self.old.held }
+    {
         let patience = Patience::new();
         for _ in rt.forever() {
-            self.pause_for_phase(rt, phaser, 1);
+            let is_past = until.is_past(phaser);
+            if !is_past {
+                self.pause_for_phase(rt, phaser, 1);
+            }
             let tried = match self.try_wait(phaser) {
                 Ok(got) => return Ok(got),
                 Err(tried) => tried,
             };
-            if let Some(refusal) = refusal::of_wait(tried) {
-                return Err(refusal);
+            if let Some(stopped) = stopped::ends_wait(tried, is_past) {
+                return Err(stopped);
             }
             patience.snooze_if_busy(rt, &tried);
         }

@@ -4,14 +4,16 @@ ghost use Rattle.phase_shared.specs.Regs.{phaser_lock, phaser_terms, phaser_limi
 ghost use Rattle.phase_shared.specs.Calls.{IsCall};
 ghost use Rattle.phase_shared.specs.Entries.{entry_stays};
 ghost use Rattle.phase_shared.specs.Blocks.{SignalsBlock, WaitsBlock, MaySignalBlock, entry_after_block, entry_after_values, without_lists};
+ghost use Rattle.phase_shared.specs.Closings.{unclosed};
 ghost use Rattle.phase_shared.specs.Joins.{RegistersNow};
 
 use crate::patience::Patience;
 use crate::phaser::Phaser;
-use crate::refusal;
 use crate::reg::Reg;
 use crate::rule::SignalRule;
+use crate::stopped::{self, Stopped};
 use crate::tried::Tried;
+use crate::until::Until;
 use phase_accum::{Accumulate, Outcome, Pending, Single};
 use phase_core::{GotBlock, RegisterRefusal, SignalRefusal, WaitRefusal};
 use std::sync::Wait;
@@ -71,15 +73,43 @@ impl<A: Accumulate, K: SignalRule> Reg<A, K> {
         ensures waited { result ≢ Err SignalRefusal.Ahead }
         ensures held { self.new.held ≡ self.old.held }
     {
+        stopped::answered(self.signal_lists_until(rt, phaser, lists, single, Until::Answered))
+    }
+
+    // The same, where it waits until then.
+    pub(crate) fn signal_lists_until<W: Wait>(
+        &mut self,
+        rt: &W,
+        phaser: &Phaser<A, K>,
+        lists: &[Pending<A>],
+        single: Option<Single>,
+        until: Until,
+    ) -> Result<u64, Stopped<SignalRefusal>>
+        requires at { self.old.at ≡ phaser_lock phaser.now }
+        requires none_held { self.old.held.count ≡ 0 }
+        requires rule { MaySignalBlock A.operation K.allows (phaser_terms phaser.now) self.old
+            lists.now single }
+
+        ensures call { let old = self.old in
+            let answer = unclosed SignalRefusal.Ahead result in
+            IsCall K.allows (phaser_terms phaser.now) SignalRefusal.NoTask
+            (entry_after_block (length lists.now)) (SignalsBlock A.operation
+            (phaser_limits phaser.now) old.number lists.now single old.seen self.new.seen answer)
+            old self.new answer }
+        ensures waited { result ≢ Err (Stopped.Refused SignalRefusal.Ahead) }
+        ensures closed { until ≡ Until.Answered → result ≢ Err Stopped.Closed }
+        ensures held { self.new.held ≡ self.old.held }
+    {
         let patience = Patience::new();
         let named = &single;
         for _ in rt.forever() {
+            let is_past = until.is_past(phaser);
             let tried = match self.try_signal_lists(phaser, lists, *named) {
                 Ok(phase) => return Ok(phase),
                 Err(tried) => tried,
             };
-            if let Some(refusal) = refusal::of_signal(tried) {
-                return Err(refusal);
+            if let Some(stopped) = stopped::ends_signal(tried, is_past) {
+                return Err(stopped);
             }
             self.pause_for_room(rt, phaser, lists.len() as u64, &patience, tried);
         }
@@ -106,15 +136,40 @@ impl<A: Accumulate, K: SignalRule> Reg<A, K> {
         ensures waited { result ≢ Err WaitRefusal.NotYet }
         ensures held { self.new.held ≡ self.old.held }
     {
+        stopped::answered(self.wait_block_until(rt, phaser, out, Until::Answered))
+    }
+
+    // The same, where it waits until then.
+    pub(crate) fn wait_block_until<W: Wait>(
+        &mut self,
+        rt: &W,
+        phaser: &Phaser<A, K>,
+        out: &mut [Outcome],
+        until: Until,
+    ) -> Result<GotBlock, Stopped<WaitRefusal>>
+        requires at { self.old.at ≡ phaser_lock phaser.now }
+
+        ensures call { let old = self.old in
+            let answer = unclosed WaitRefusal.NotYet result in
+            IsCall K.allows (phaser_terms phaser.now) WaitRefusal.NoTask entry_after_values
+            (WaitsBlock A.operation.value (phaser_limits phaser.now) old.number old.seen
+            self.new.seen out.old out.new answer) old self.new answer }
+        ensures waited { result ≢ Err (Stopped.Refused WaitRefusal.NotYet) }
+        ensures closed { until ≡ Until.Answered → result ≢ Err Stopped.Closed }
+        ensures held { self.new.held ≡ self.old.held }
+    {
         let patience = Patience::new();
         for _ in rt.forever() {
-            self.pause_for_phase(rt, phaser, out.len() as u64);
+            let is_past = until.is_past(phaser);
+            if !is_past {
+                self.pause_for_phase(rt, phaser, out.len() as u64);
+            }
             let tried = match self.try_wait_block(phaser, out) {
                 Ok(got) => return Ok(got),
                 Err(tried) => tried,
             };
-            if let Some(refusal) = refusal::of_wait(tried) {
-                return Err(refusal);
+            if let Some(stopped) = stopped::ends_wait(tried, is_past) {
+                return Err(stopped);
             }
             patience.snooze_if_busy(rt, &tried);
         }

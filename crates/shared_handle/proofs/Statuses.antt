@@ -1,7 +1,7 @@
 -- Statuses: each is a number of 32 bits, and where one tells that nothing was got, nothing is
 -- written.
-use Rattle.std.proofs.Common.{◌≡◌, ◌≢◌, ℕ, ℤ, List, Option, Some, None, refl, ap, ◌∙◌, w32, to_z, of_z}
-use Rattle.std.specs.Prelude.{Result, Ok, Err, OnErr}
+use Rattle.std.proofs.Common.{◌≡◌, ◌≢◌, ℕ, ℤ, List, Option, Some, None, refl, sym, ap, ◌∙◌, w32, to_z, of_z}
+use Rattle.std.specs.Prelude.{◌⊎◌, Result, Ok, Err, OnErr, IfOk}
 use Rattle.phase_history.specs.declared.got.Got.{Got}
 use Rattle.phase_history.specs.declared.got.Got.TheVariants as got
 use Rattle.phase_history.specs.declared.got.GotBlock.{GotBlock}
@@ -20,6 +20,10 @@ use Rattle.handle_numbers.specs.Numbers.{signal_number, wait_number, signal_stat
 use Rattle.handle_numbers.specs.declared.numbers.TheConstants.{GOOD, ENDED, SIGNALLED}
 use Rattle.shared_handle.specs.declared.any_member.AnyMember.{AnyMember}
 use Rattle.shared_handle.specs.declared.standing_exports.Counts.{Counts}
+use Rattle.phase_shared.specs.Asked.{IsValue}
+use Rattle.phase_shared.specs.Calls.{tried}
+use Rattle.phase_shared.specs.declared.next.Next.{Next}
+use Rattle.shared_handle.specs.Calls.{both_of}
 use Rattle.shared_handle.specs.Told.{tried_status, next_status, register_status, missing_status, start_got, phase_signalled, value_after, phase_got, value_got, first_got, count_got, counts_told}
 
 -- the number fits
@@ -189,3 +193,49 @@ pub start_unwritten : (answer : Result AnyMember (Tried RegisterRefusal)) (old :
     → tried_status register_status answer ≢ GOOD → start_got answer old ≡ old
 start_unwritten (Ok child) old none = absurd (none refl)
 start_unwritten (Err tried) old none = refl
+
+-- a signal that is refused is told as nothing else
+refused_apart : (refusal : SignalRefusal)
+    → (signal_number refusal ≢ SIGNALLED) × (signal_number refusal ≢ ENDED)
+refused_apart signal.NoTask = (λ e. cc, λ e. cc)
+refused_apart signal.NoSignal = (λ e. cc, λ e. cc)
+refused_apart signal.NotSingle = (λ e. cc, λ e. cc)
+refused_apart signal.BadBlock = (λ e. cc, λ e. cc)
+refused_apart signal.SignalTwice = (λ e. cc, λ e. cc)
+refused_apart signal.Spent = (λ e. cc, λ e. cc)
+refused_apart signal.Ahead = (λ e. cc, λ e. cc)
+refused_apart signal.SingleDiffers = (λ e. cc, λ e. cc)
+refused_apart signal.PhaseFull = (λ e. cc, λ e. cc)
+
+-- a value is told as one
+pub told_value : (phase : ℕ) (got : Option Got) → IsValue got
+    → next_status (Ok (phase, got)) ≡ GOOD
+told_value phase got value = ap (λ it. next_status (Ok (phase, it))) value.is
+
+good_is_no_signal : GOOD ≡ SIGNALLED → ⊥
+good_is_no_signal e = cc
+
+good_is_no_end : GOOD ≡ ENDED → ⊥
+good_is_no_end e = cc
+
+signal_is_no_end : SIGNALLED ≡ ENDED → ⊥
+signal_is_no_end e = cc
+
+-- a next phase that was asked for is told as a value, or as a signal that is refused
+pub told_gone : (gone : Result Next SignalRefusal) → IfOk gone (λ next. IsValue next.got)
+    → (tried_status next_status (tried (both_of gone)) ≢ SIGNALLED)
+    × (tried_status next_status (tried (both_of gone)) ≢ ENDED)
+told_gone (Ok next) value =
+    let good = told_value _ next.got value in
+    (λ e. good_is_no_signal (sym good ∙ e), λ e. good_is_no_end (sym good ∙ e))
+told_gone (Err refusal) value = refused_apart refusal
+
+-- and one that is taken back, as no end
+pub told_back : (back : Result (ℕ × Option Got) SignalRefusal)
+    → IfOk back (λ made. (made.1 ≡ None) ⊎ IsValue made.1)
+    → tried_status next_status (tried back) ≢ ENDED
+told_back (Ok (phase, got)) (inl none) e =
+    signal_is_no_end (sym (ap (λ it. next_status (Ok (phase, it))) none) ∙ e)
+told_back (Ok (phase, got)) (inr value) e =
+    good_is_no_end (sym (told_value phase got value) ∙ e)
+told_back (Err refusal) value e = (refused_apart refusal).1 e

@@ -1,9 +1,11 @@
 //! A registration that asks, under any of the five operations.
-ghost use Rattle.std.specs.Prelude.{◌≡◌, None, IfOk, IfErr};
+ghost use Rattle.std.specs.Prelude.{◌≡◌, ◌≢◌, None, IfOk, IfErr};
 ghost use Rattle.phase_accum.specs.Values.{value_by};
 ghost use Rattle.shared_handle.specs.Members.{IsInItsHistory, sent_value};
 ghost use Rattle.shared_handle.specs.Calls.{NextCall};
 ghost use Rattle.shared_handle.specs.AnyMembers.{op_in, op_asked, state_in, asked_state};
+ghost use Rattle.shared_handle.specs.Told.{next_status, tried_status};
+ghost use Rattle.handle_numbers.specs.declared.numbers.TheConstants.{GOOD, ENDED, SIGNALLED};
 
 use crate::any_member::AnyMember;
 use crate::asked_member::AskedMember;
@@ -169,6 +171,7 @@ impl AnyAsked {
         ensures ok { IfOk result (λ end. NextCall (value_by (op_asked self))
             (asked_state self).values None (asked_state self).reg (state_in end.0) end.1) }
         ensures op { IfOk result (λ end. op_in end.0 ≡ op_asked self) }
+        ensures status { IfOk result (λ end. tried_status next_status end.1 ≡ GOOD) }
         ensures err { IfErr result (λ asked. asked ≡ self) }
     {
         each_end!(self, one => one.look())
@@ -183,6 +186,8 @@ impl AnyAsked {
         ensures ok { IfOk result (λ end. NextCall (value_by (op_asked self))
             (asked_state self).values None (asked_state self).reg (state_in end.0) end.1) }
         ensures op { IfOk result (λ end. op_in end.0 ≡ op_asked self) }
+        ensures status { IfOk result (λ end. (tried_status next_status end.1 ≢ SIGNALLED)
+            × (tried_status next_status end.1 ≢ ENDED)) }
         ensures err { IfErr result (λ asked. asked.0 ≡ self) }
     {
         each_turn!(self, one => one.serve(looks))
@@ -195,6 +200,7 @@ impl AnyAsked {
         ensures ok { IfOk result (λ end. NextCall (value_by (op_asked self))
             (asked_state self).values None (asked_state self).reg (state_in end.0) end.1) }
         ensures op { IfOk result (λ end. op_in end.0 ≡ op_asked self) }
+        ensures status { IfOk result (λ end. tried_status next_status end.1 ≢ ENDED) }
         ensures err { IfErr result (λ asked. asked ≡ self) }
     {
         each_end!(self, one => one.take_back())

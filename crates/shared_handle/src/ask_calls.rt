@@ -1,11 +1,11 @@
 //! Calls by which the registration of a handle asks for its next phase, and ends that.
-ghost use Rattle.std.specs.Prelude.{◌≡◌, ◌⊎◌, Some, None, IsSome, true, false, IfOk, IfErr, OnErr};
+ghost use Rattle.std.specs.Prelude.{◌≡◌, ◌≢◌, ◌⊎◌, Some, None, IsSome, true, false, IfOk, IfErr, OnErr};
 ghost use Rattle.phase_accum.specs.Values.{value_by};
-ghost use Rattle.handle_numbers.specs.declared.numbers.TheConstants.{ASKED, BUSY, NOT_ASKED};
+ghost use Rattle.handle_numbers.specs.declared.numbers.TheConstants.{GOOD, ENDED, SIGNALLED, ASKED, BUSY, NOT_ASKED};
 ghost use Rattle.shared_handle.specs.AnyMembers.{op_in, op_asked, state_in, asked_state, held_in, asker_in, StillHas, HasAsked};
 ghost use Rattle.shared_handle.specs.Calls.{NextCall};
 ghost use Rattle.shared_handle.specs.Members.{sent_value};
-ghost use Rattle.shared_handle.specs.Told.{AsksFrom, EndsAsk};
+ghost use Rattle.shared_handle.specs.Told.{AsksFrom, EndsAsk, next_status, tried_status};
 ghost use Rattle.shared_handle.specs.declared.any_asked.AnyAsked.{AnyAsked};
 ghost use Rattle.shared_handle.specs.declared.any_member.AnyMember.{AnyMember};
 
@@ -68,6 +68,7 @@ impl Handle {
             → IfOk result (λ answer. EndsAsk a (held_in self.new.place.kept) answer) }
         ensures asks { (a : AnyAsked) → asker_in self.old.place.kept ≡ Some a
             → IfErr result (λ status. status ≡ ASKED) }
+        ensures status { IfOk result (λ answer. tried_status next_status answer ≡ GOOD) }
         ensures rests { asker_in self.old.place.kept ≡ None → result ≡ Err NOT_ASKED }
         ensures err { OnErr result (self.new.place.kept ≡ self.old.place.kept) }
     {
@@ -95,6 +96,8 @@ impl Handle {
             → IfOk result (λ answer. EndsAsk a (held_in self.new.place.kept) answer) }
         ensures asks { (a : AnyAsked) → asker_in self.old.place.kept ≡ Some a
             → IfErr result (λ status. (status ≡ ASKED) ⊎ (status ≡ BUSY)) }
+        ensures status { IfOk result (λ answer. (tried_status next_status answer ≢ SIGNALLED)
+            × (tried_status next_status answer ≢ ENDED)) }
         ensures rests { asker_in self.old.place.kept ≡ None → result ≡ Err NOT_ASKED }
         ensures err { OnErr result (self.new.place.kept ≡ self.old.place.kept) }
     {
@@ -124,6 +127,7 @@ impl Handle {
             → IfOk result (λ answer. EndsAsk a (held_in self.new.place.kept) answer) }
         ensures asks { (a : AnyAsked) → asker_in self.old.place.kept ≡ Some a
             → IfErr result (λ status. status ≡ BUSY) }
+        ensures status { IfOk result (λ answer. tried_status next_status answer ≢ ENDED) }
         ensures rests { asker_in self.old.place.kept ≡ None → result ≡ Err NOT_ASKED }
         ensures err { OnErr result (self.new.place.kept ≡ self.old.place.kept) }
     {

@@ -66,6 +66,8 @@ pub extern "C" fn phase_member_look(
         → RefusedAs ASKED result member.old.place.kept member.new.place.kept
         ⊎ StillHas (held_in member.new.place.kept) (λ n.
         TellsAskEnd a n result phase.old phase.new value.old value.new) }
+    ensures status { (a : AnyAsked) → asker_in member.old.place.kept ≡ Some a
+        → (result ≡ ASKED) ⊎ (result ≡ GOOD) }
 
     ensures no_phaser { member.old.place.kept ≡ None
         → RefusedAs NO_PHASER result member.old.place.kept member.new.place.kept }
@@ -106,6 +108,8 @@ pub extern "C" fn phase_member_serve(
         ⊎ (RefusedAs BUSY result member.old.place.kept member.new.place.kept
         ⊎ StillHas (held_in member.new.place.kept) (λ n.
         TellsAskEnd a n result phase.old phase.new value.old value.new)) }
+    ensures status { (a : AnyAsked) → asker_in member.old.place.kept ≡ Some a
+        → (result ≢ SIGNALLED) × (result ≢ ENDED) }
 
     ensures no_phaser { member.old.place.kept ≡ None
         → RefusedAs NO_PHASER result member.old.place.kept member.new.place.kept }
@@ -142,6 +146,8 @@ pub extern "C" fn phase_member_take_back(
         → RefusedAs BUSY result member.old.place.kept member.new.place.kept
         ⊎ StillHas (held_in member.new.place.kept) (λ n.
         TellsAskEnd a n result phase.old phase.new value.old value.new) }
+    ensures status { (a : AnyAsked) → asker_in member.old.place.kept ≡ Some a
+        → result ≢ ENDED }
 
     ensures no_phaser { member.old.place.kept ≡ None
         → RefusedAs NO_PHASER result member.old.place.kept member.new.place.kept }

@@ -1,9 +1,11 @@
 //! A registration that asks for its next phase, and owns a share of its phaser.
-ghost use Rattle.std.specs.Prelude.{◌≡◌, true, None, IfOk, IfErr};
+ghost use Rattle.std.specs.Prelude.{◌≡◌, ◌≢◌, true, None, IfOk, IfErr};
 ghost use Rattle.phase_accum.specs.Parcels.{StandsForSends};
 ghost use Rattle.shared_handle.specs.Members.{IsInItsHistory, sent_value};
 ghost use Rattle.phase_shared.specs.Calls.{tried};
 ghost use Rattle.shared_handle.specs.Calls.{NextCall, both_of};
+ghost use Rattle.shared_handle.specs.Told.{next_status, tried_status};
+ghost use Rattle.handle_numbers.specs.declared.numbers.TheConstants.{GOOD, ENDED, SIGNALLED};
 
 use crate::member::Member;
 use phase_accum::Accumulate;
@@ -144,6 +146,7 @@ impl<A: Accumulate> AskedMember<A> {
     ) -> Result<(Member<A>, Result<(u64, Option<Got>), Tried<SignalRefusal>>), AskedMember<A>>
         ensures ok { IfOk result (λ end. NextCall A.operation.value self.values None self.reg
             end.0 end.1) }
+        ensures status { IfOk result (λ end. tried_status next_status end.1 ≡ GOOD) }
         ensures err { IfErr result (λ asked. asked ≡ self) }
     {
         let AskedMember {
@@ -180,6 +183,8 @@ impl<A: Accumulate> AskedMember<A> {
     >
         ensures ok { IfOk result (λ end. NextCall A.operation.value self.values None self.reg
             end.0 end.1) }
+        ensures status { IfOk result (λ end. (tried_status next_status end.1 ≢ SIGNALLED)
+            × (tried_status next_status end.1 ≢ ENDED)) }
         ensures err { IfErr result (λ asked. asked.0 ≡ self) }
     {
         let AskedMember {
@@ -213,6 +218,7 @@ impl<A: Accumulate> AskedMember<A> {
     ) -> Result<(Member<A>, Result<(u64, Option<Got>), Tried<SignalRefusal>>), AskedMember<A>>
         ensures ok { IfOk result (λ end. NextCall A.operation.value self.values None self.reg
             end.0 end.1) }
+        ensures status { IfOk result (λ end. tried_status next_status end.1 ≢ ENDED) }
         ensures err { IfErr result (λ asked. asked ≡ self) }
     {
         let AskedMember {

@@ -60,13 +60,14 @@ pub struct AskingDesk<'a, A: Accumulate, K: SignalRule, S: Since<K>> {
 }
 
 impl<'a, A: Accumulate, K: SignalRule, S: Since<K>> Model for AskingDesk<'a, A, K, S> {
+    ghost use Rattle.std.specs.Prelude.{Bool};
     ghost use Rattle.turn_lock.specs.Seats.{seat_view};
     ghost use Rattle.phase_shared.specs.Goods.{allows_or};
     ghost use Rattle.phase_shared.specs.Servings.{IsAsking, MayWait};
 
-    ghost Value = { Unit {0} };
+    ghost Value = { Bool };
 
-    ghost view = { λ d. tt };
+    ghost view = { λ d. d.is_made };
 
     ghost invariant = { λ d. IsAsking S.ask S.seen (seat_view d.desk.seat)
         × MayWait S.terms.limits (allows_or K.allows S.terms.rule) S.ask S.seen };

@@ -1,5 +1,5 @@
 //! Steps on the words beside a phaser's lock, by seats that ask and by turns.
-ghost use Rattle.std.specs.Prelude.{◌≡◌, ◌<◌, ◌+◌, IfErr};
+ghost use Rattle.std.specs.Prelude.{◌≡◌, ◌<◌, ◌+◌, false, IfErr};
 ghost use Rattle.turn_lock.specs.Seats.{seat_view, turn_number, turn_view, turn_value, turn_told, seat_number};
 ghost use Rattle.turn_lock.specs.WordSteps.{WritesOf, ReadsIn, WritesIn};
 ghost use Rattle.phase_shared.specs.Goods.{allows_or};
@@ -57,6 +57,7 @@ impl<'a, A: Accumulate, K: SignalRule, S: Since<K>> Desk<'a, A, K, S> {
             (seat_view self.seat) }
         requires seen { S.seen ≡ (known_of (seat_view self.seat)).seen }
         requires waits { MayWait S.terms.limits (allows_or K.allows S.terms.rule) S.ask S.seen }
+        ensures { result ≡ false }
     {
         let request = self.of.request;
         let desk = self.post_as::<Brand, u64>(send_place(request.lane), request.send, request.send);

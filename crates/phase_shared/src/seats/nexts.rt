@@ -1,5 +1,5 @@
 //! A next phase of a task, which others may take it to.
-ghost use Rattle.std.specs.Prelude.{◌≡◌, IfSome, IfNone};
+ghost use Rattle.std.specs.Prelude.{◌≡◌, true, IfSome, IfNone};
 ghost use Rattle.turn_lock.specs.Seats.{IsSeatAt, seat_view};
 ghost use Rattle.phase_shared.specs.Goods.{allows_or};
 ghost use Rattle.phase_shared.specs.Servings.{IsCallAt, MayGoNext, HasEnded};
@@ -59,8 +59,11 @@ impl<'a, A: Accumulate, K: SignalRule, S: Since<K>> AskingDesk<'a, A, K, S> {
         }
     }
 
-    // Sleeps for some time, or until its phase is complete.
-    fn sleep<W: Wait>(&self, rt: &W) {
+    // Sleeps for some time, or until its phase is complete. Its signal is made: nobody may be left
+    // to wake who sleeps while it is a post alone.
+    fn sleep<W: Wait>(&self, rt: &W)
+        requires { self.now ≡ true }
+    {
         let phaser = self.desk.of.phaser;
         let bell = &phaser.hints.phases;
         let found = bell.lie_down();
@@ -105,7 +108,6 @@ impl<'a, A: Accumulate, K: SignalRule, S: Since<K>> AskingDesk<'a, A, K, S> {
                 Came::Ended(ended) => return ended,
                 Came::Asked(next) => next,
             };
-            // Nobody may be left to wake who sleeps while its signal is a post alone.
             if asking.is_made {
                 asking.sleep(rt);
                 asking.is_made = false;

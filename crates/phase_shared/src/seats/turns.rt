@@ -1,5 +1,5 @@
 //! The turns of a seat that asks, from the take to the give.
-ghost use Rattle.std.specs.Prelude.{◌<◌, ◌^◌, false, IfErr};
+ghost use Rattle.std.specs.Prelude.{◌≡◌, ◌<◌, ◌^◌, true, false, IfErr};
 ghost use Rattle.turn_lock.specs.Seats.{seat_view, turn_number, turn_view, turn_value, turn_told};
 ghost use Rattle.turn_lock.specs.WordSteps.{GivesOf};
 ghost use Rattle.phase_shared.specs.Goods.{allows_or};
@@ -174,7 +174,9 @@ impl<'a, A: Accumulate, K: SignalRule, S: Since<K>> OpenTurn<'a, A, K, S> {
     }
 
     // Gives the turn back while its phase is not complete: it asks that others go on.
-    fn give_up(self) -> AskingDesk<'a, A, K, S> {
+    fn give_up(self) -> AskingDesk<'a, A, K, S>
+        ensures { result ≡ true }
+    {
         let OpenTurn { on } = self;
         let desk = on.post_in().give_same::<Brand, _>(());
         let is_made = true;

@@ -1,58 +1,17 @@
-use Rattle.std.proofs.Common.{◌≡◌, [], ◌∷◌, Ok, Err, sym, subst, ap, refl, ◌∙◌}
-use Rattle.phase_shared.specs.Phasers.{History, OthersCame}
+use Rattle.std.proofs.Common.{sym, subst}
 use Rattle.phase_history.specs.declared.refusal.SignalRefusal.TheVariants.{Ahead, NoTask}
-use Rattle.phase_shared.specs.Regs.{phaser_terms}
-use Rattle.phase_shared.specs.Calls.{Tries}
 use Rattle.phase_shared.specs.Entries.{entry_after_both}
 use Rattle.phase_shared.specs.Nexts.{SignalsAndMayWait}
-use Rattle.phase_shared.proofs.Later.{may_later, signals_and_may_wait_later, waits_on, accepted, refused}
+use Rattle.phase_shared.specs.Regs.{phaser_terms, phaser_limits}
+use Rattle.phase_shared.specs.Calls.{IsCall}
 use Rattle.phase_shared.proofs.reg.Reg.signal_and_wait.Goals as goal
 
-pub try_signal_and_wait-requires-clause-rule : goal.try_signal_and_wait-requires-clause-rule
-try_signal_and_wait-requires-clause-rule g c =
-    let i = c.loop.invariant in
-    may_later g.A.Accumulate.operation (phaser_terms c.args.phaser.now) c.args.single c.args.self.now c.loop.self i.number i.held i.others
-    g.K.SignalRule.allows c.requires.rule
+pub returns-clause-call : goal.returns-clause-call
+returns-clause-call g c =
+    let old = c.args.self.now in
+    let new = c.signal_until.new.self in
+    subst (λ r. IsCall g.K.SignalRule.allows (phaser_terms c.args.phaser.now) NoTask entry_after_both (SignalsAndMayWait c.args.waits g.A.Accumulate.operation (phaser_limits c.args.phaser.now) old.number old.held c.args.single old.seen new.seen r) old new r)
+    (sym (c.answered.ensures.same Ahead)) c.signal_until.ensures.call
 
-pub returns-in-Ok-clause-call : goal.returns-in-Ok-clause-call
-returns-in-Ok-clause-call g c =
-    let start = c.args.self.now in
-    let i = c.loop.invariant in
-    let op = g.A.Accumulate.operation in
-    let terms = phaser_terms c.args.phaser.now in
-    let now = c.loop.self in
-    let new = c.try_signal_and_wait.new.self in
-    let call = SignalsAndMayWait c.args.waits op terms.limits now.number now.held c.args.single now.seen new.seen in
-    let t = c.try_signal_and_wait.ensures.call in
-    accepted g.K.SignalRule.allows terms NoTask entry_after_both start now new i (Tries (new ≡ now) call c.try_signal_and_wait.result)
-    (SignalsAndMayWait c.args.waits op terms.limits start.number start.held c.args.single start.seen new.seen (Ok c.in-Ok.answer))
-    c.try_signal_and_wait.result c.in-Ok.answer c.in-Ok.is t
-    (signals_and_may_wait_later op terms c.args.single start now i.number i.held i.others c.args.waits new.seen (Ok c.in-Ok.answer)
-    (subst (λ r. Tries (new ≡ now) call r) c.in-Ok.is t.call))
-
-pub returns-in-Some-of_signal-clause-call : goal.returns-in-Some-of_signal-clause-call
-returns-in-Some-of_signal-clause-call g c =
-    let start = c.args.self.now in
-    let i = c.loop.invariant in
-    let op = g.A.Accumulate.operation in
-    let terms = phaser_terms c.args.phaser.now in
-    let now = c.loop.self in
-    let new = c.try_signal_and_wait.new.self in
-    let call = SignalsAndMayWait c.args.waits op terms.limits now.number now.held c.args.single now.seen new.seen in
-    let t = c.try_signal_and_wait.ensures.call in
-    let is = c.in-Err.is ∙ ap Err c.in-Some-of_signal.ensures.some.0 in
-    refused g.K.SignalRule.allows terms NoTask entry_after_both start now new i (Tries (new ≡ now) call c.try_signal_and_wait.result)
-    (SignalsAndMayWait c.args.waits op terms.limits start.number start.held c.args.single start.seen new.seen (Err c.in-Some-of_signal.refusal))
-    c.try_signal_and_wait.result c.in-Some-of_signal.refusal is t
-    (signals_and_may_wait_later op terms c.args.single start now i.number i.held i.others c.args.waits new.seen (Err c.in-Some-of_signal.refusal)
-    (subst (λ r. Tries (new ≡ now) call r) is t.call))
-
-pub loop-preserved : goal.loop-preserved
-loop-preserved g c =
-    let terms = phaser_terms c.args.phaser.now in
-    let now = c.loop.self in
-    let new = c.try_signal_and_wait.new.self in
-    waits_on g.K.SignalRule.allows terms NoTask entry_after_both c.args.self.now now new c.loop.invariant
-    (SignalsAndMayWait c.args.waits g.A.Accumulate.operation terms.limits now.number now.held c.args.single now.seen new.seen)
-    Ahead c.in-Err.tried c.try_signal_and_wait.result c.in-Err.is c.in_default.ensures.none c.try_signal_and_wait.ensures.call
-    (λ s. subst (λ (h : History). OthersCame (now.number ∷ []) now.seen h) (sym s.seen) s.others) (λ e. refl) c.in-Err.ensures.held
+pub returns-clause-waited : goal.returns-clause-waited
+returns-clause-waited g c is = c.signal_until.ensures.waited (c.answered.ensures.refused Ahead is)

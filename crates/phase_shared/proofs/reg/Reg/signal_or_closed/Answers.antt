@@ -1,57 +1,45 @@
-use Rattle.std.proofs.Common.{◌≡◌, [], ◌∷◌, Ok, Err, sym, subst, ap, refl, ◌∙◌}
-use Rattle.phase_shared.specs.Phasers.{History, OthersCame}
-use Rattle.phase_history.specs.declared.refusal.SignalRefusal.TheVariants.{Ahead, NoTask}
-use Rattle.phase_shared.specs.Regs.{phaser_terms}
-use Rattle.phase_shared.specs.Calls.{Tries, Signals}
-use Rattle.phase_shared.specs.Closings.{refusal_of_stop}
-use Rattle.phase_shared.specs.Entries.{entry_after_signal}
-use Rattle.phase_shared.proofs.Later.{may_later, signals_later, waits_on, accepted, refused}
+use Rattle.std.proofs.Common.{false, subst, ap, ◌∙◌, rules}
+use Rattle.std.specs.Result.{result_ok}
+use Rattle.phase_base.specs.Members.{signalled}
+use Rattle.phase_history.specs.declared.refusal.SignalRefusal.TheVariants.{Ahead}
+use Rattle.phase_shared.specs.Regs.{phaser_limits}
+use Rattle.phase_shared.specs.Closings.{unclosed}
+use Rattle.phase_shared.specs.Entries.{entry_after_both}
+use Rattle.phase_shared.specs.Nexts.{SignalsAndMayWait, HasSignalledAndMayWait}
+use Rattle.phase_shared.proofs.Later.{signals_alone, entry_alone}
 use Rattle.phase_shared.proofs.reg.Reg.signal_or_closed.Goals as goal
-
-pub try_signal-requires-clause-rule : goal.try_signal-requires-clause-rule
-try_signal-requires-clause-rule g c =
-    let i = c.loop.invariant in
-    may_later g.A.Accumulate.operation (phaser_terms c.args.phaser.now) c.args.single c.args.self.now c.loop.self i.number i.held i.others
-    g.K.SignalRule.allows c.requires.rule
 
 pub returns-in-Ok-clause-call : goal.returns-in-Ok-clause-call
 returns-in-Ok-clause-call g c =
-    let start = c.args.self.now in
-    let i = c.loop.invariant in
     let op = g.A.Accumulate.operation in
-    let terms = phaser_terms c.args.phaser.now in
-    let now = c.loop.self in
-    let new = c.try_signal.new.self in
-    let call = Signals op terms.limits now.number now.held c.args.single now.seen new.seen in
-    let t = c.try_signal.ensures.call in
-    accepted g.K.SignalRule.allows terms NoTask entry_after_signal start now new i (Tries (new ≡ now) call c.try_signal.result)
-    (Signals op terms.limits start.number start.held c.args.single start.seen new.seen (Ok c.in-Ok.phase)) c.try_signal.result c.in-Ok.phase c.in-Ok.is t
-    (signals_later op terms c.args.single start now i.number i.held i.others new.seen (Ok c.in-Ok.phase)
-    (subst (λ r. Tries (new ≡ now) call r) c.in-Ok.is t.call))
+    let limits = phaser_limits c.args.phaser.now in
+    let old = c.args.self.now in
+    let new = c.signal_until.new.self in
+    let t = c.signal_until.ensures.call in
+    let s : HasSignalledAndMayWait false op limits old.number old.held c.args.single old.seen new.seen c.in-Ok.answer =
+    subst (λ r. SignalsAndMayWait false op limits old.number old.held c.args.single old.seen new.seen (unclosed Ahead r)) c.in-Ok.is t.call in
+    record {
+      call = signals_alone op limits old.number old.held c.args.single old.seen new.seen c.in-Ok.answer s;
+      entry = t.entry ∙ ap (λ r. entry_after_both (result_ok (unclosed Ahead r)) old.entry) c.in-Ok.is
+          ∙ entry_alone op.value limits old.number s.middle new.seen c.in-Ok.answer.1 (signalled 1 old.entry) s.waits;
+      mode = t.mode;
+      at = t.at;
+      good = t.good;
+      known = search rules;
+    }
 
-pub returns-in-Some-ends_signal-clause-call : goal.returns-in-Some-ends_signal-clause-call
-returns-in-Some-ends_signal-clause-call g c =
-    let start = c.args.self.now in
-    let i = c.loop.invariant in
+pub returns-in-Err-clause-call : goal.returns-in-Err-clause-call
+returns-in-Err-clause-call g c =
     let op = g.A.Accumulate.operation in
-    let terms = phaser_terms c.args.phaser.now in
-    let now = c.loop.self in
-    let new = c.try_signal.new.self in
-    let refusal = refusal_of_stop Ahead c.in-Some-ends_signal.stopped in
-    let call = Signals op terms.limits now.number now.held c.args.single now.seen new.seen in
-    let t = c.try_signal.ensures.call in
-    let is = c.in-Err.is ∙ ap Err c.in-Some-ends_signal.ensures.some in
-    refused g.K.SignalRule.allows terms NoTask entry_after_signal start now new i (Tries (new ≡ now) call c.try_signal.result)
-    (Signals op terms.limits start.number start.held c.args.single start.seen new.seen (Err refusal)) c.try_signal.result refusal is t
-    (signals_later op terms c.args.single start now i.number i.held i.others new.seen (Err refusal)
-    (subst (λ r. Tries (new ≡ now) call r) is t.call))
-
-pub loop-preserved : goal.loop-preserved
-loop-preserved g c =
-    let terms = phaser_terms c.args.phaser.now in
-    let now = c.loop.self in
-    let new = c.try_signal.new.self in
-    waits_on g.K.SignalRule.allows terms NoTask entry_after_signal c.args.self.now now new c.loop.invariant
-    (Signals g.A.Accumulate.operation terms.limits now.number now.held c.args.single now.seen new.seen) Ahead c.in-Err.tried c.try_signal.result c.in-Err.is
-    c.in_default.ensures.none c.try_signal.ensures.call
-    (λ s. subst (λ (h : History). OthersCame (now.number ∷ []) now.seen h) (sym s.seen) s.others) (λ e. refl) c.in-Err.ensures.held
+    let limits = phaser_limits c.args.phaser.now in
+    let old = c.args.self.now in
+    let new = c.signal_until.new.self in
+    let t = c.signal_until.ensures.call in
+    record {
+      call = subst (λ r. SignalsAndMayWait false op limits old.number old.held c.args.single old.seen new.seen (unclosed Ahead r)) c.in-Err.is t.call;
+      entry = t.entry ∙ ap (λ r. entry_after_both (result_ok (unclosed Ahead r)) old.entry) c.in-Err.is;
+      mode = t.mode;
+      at = t.at;
+      good = t.good;
+      known = search rules;
+    }

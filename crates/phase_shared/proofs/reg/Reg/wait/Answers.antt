@@ -1,49 +1,16 @@
-use Rattle.std.proofs.Common.{◌≡◌, [], ◌∷◌, Ok, Err, sym, subst, ap, refl, ◌∙◌}
-use Rattle.phase_shared.specs.Phasers.{History, OthersCame}
+use Rattle.std.proofs.Common.{sym, subst}
 use Rattle.phase_history.specs.declared.refusal.WaitRefusal.TheVariants.{NotYet, NoTask}
-use Rattle.phase_shared.specs.Regs.{phaser_terms}
-use Rattle.phase_shared.specs.Calls.{Tries, Waits}
 use Rattle.phase_shared.specs.Entries.{entry_after_wait}
-use Rattle.phase_shared.proofs.Later.{waits_later, waits_on, accepted, refused}
+use Rattle.phase_shared.specs.Regs.{phaser_terms, phaser_limits}
+use Rattle.phase_shared.specs.Calls.{IsCall, Waits}
 use Rattle.phase_shared.proofs.reg.Reg.wait.Goals as goal
 
-pub returns-in-Ok-clause-call : goal.returns-in-Ok-clause-call
-returns-in-Ok-clause-call g c =
-    let start = c.args.self.now in
-    let i = c.loop.invariant in
-    let value = g.A.Accumulate.operation.value in
-    let terms = phaser_terms c.args.phaser.now in
-    let now = c.loop.self in
-    let new = c.try_wait.new.self in
-    let call = Waits value terms.limits now.number now.seen new.seen in
-    let t = c.try_wait.ensures.call in
-    accepted g.K.SignalRule.allows terms NoTask entry_after_wait start now new i (Tries (new ≡ now) call c.try_wait.result)
-    (Waits value terms.limits start.number start.seen new.seen (Ok c.in-Ok.got)) c.try_wait.result c.in-Ok.got c.in-Ok.is t
-    (waits_later value terms.limits start.number now.number start.seen now.seen new.seen (Ok c.in-Ok.got) i.number i.others
-    (subst (λ r. Tries (new ≡ now) call r) c.in-Ok.is t.call))
+pub returns-clause-call : goal.returns-clause-call
+returns-clause-call g c =
+    let old = c.args.self.now in
+    let new = c.wait_until.new.self in
+    subst (λ r. IsCall g.K.SignalRule.allows (phaser_terms c.args.phaser.now) NoTask entry_after_wait (Waits g.A.Accumulate.operation.value (phaser_limits c.args.phaser.now) old.number old.seen new.seen r) old new r)
+    (sym (c.answered.ensures.same NotYet)) c.wait_until.ensures.call
 
-pub returns-in-Some-of_wait-clause-call : goal.returns-in-Some-of_wait-clause-call
-returns-in-Some-of_wait-clause-call g c =
-    let start = c.args.self.now in
-    let i = c.loop.invariant in
-    let value = g.A.Accumulate.operation.value in
-    let terms = phaser_terms c.args.phaser.now in
-    let now = c.loop.self in
-    let new = c.try_wait.new.self in
-    let call = Waits value terms.limits now.number now.seen new.seen in
-    let t = c.try_wait.ensures.call in
-    let is = c.in-Err.is ∙ ap Err c.in-Some-of_wait.ensures.some.0 in
-    refused g.K.SignalRule.allows terms NoTask entry_after_wait start now new i (Tries (new ≡ now) call c.try_wait.result)
-    (Waits value terms.limits start.number start.seen new.seen (Err c.in-Some-of_wait.refusal)) c.try_wait.result c.in-Some-of_wait.refusal is t
-    (waits_later value terms.limits start.number now.number start.seen now.seen new.seen (Err c.in-Some-of_wait.refusal) i.number i.others
-    (subst (λ r. Tries (new ≡ now) call r) is t.call))
-
-pub loop-preserved : goal.loop-preserved
-loop-preserved g c =
-    let terms = phaser_terms c.args.phaser.now in
-    let now = c.loop.self in
-    let new = c.try_wait.new.self in
-    waits_on g.K.SignalRule.allows terms NoTask entry_after_wait c.args.self.now now new c.loop.invariant
-    (Waits g.A.Accumulate.operation.value terms.limits now.number now.seen new.seen) NotYet c.in-Err.tried c.try_wait.result c.in-Err.is
-    c.in_default.ensures.none c.try_wait.ensures.call
-    (λ w. subst (λ (h : History). OthersCame (now.number ∷ []) now.seen h) (sym w.seen) w.others) (λ e. refl) c.try_wait.ensures.held
+pub returns-clause-waited : goal.returns-clause-waited
+returns-clause-waited g c is = c.wait_until.ensures.waited (c.answered.ensures.refused NotYet is)

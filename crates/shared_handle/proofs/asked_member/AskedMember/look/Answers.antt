@@ -7,6 +7,8 @@ use Rattle.phase_shared.specs.Regs.{phaser_lock, phaser_terms}
 use Rattle.shared_handle.specs.Members.{AskedRegistration, as_registration, sent_value}
 use Rattle.shared_handle.specs.Calls.{NextCall, both_of}
 use Rattle.shared_handle.proofs.Ending.{gone_both, back_call}
+use Rattle.shared_handle.proofs.Statuses.{told_value}
+use Rattle.shared_handle.specs.Told.{next_status, tried_status}
 use Rattle.shared_handle.proofs.asked_member.AskedMember.look.Goals as goal
 
 pub returns-in-Ok-clause-ok : goal.returns-in-Ok-clause-ok
@@ -31,3 +33,8 @@ returns-in-Ok-clause-ok g c =
     c.answer.result) c.into_asked-asked.ensures
     (subst (λ told. NextCall op.value values None (as_registration old) (as_registration new) told)
     (sym c.answer.ensures) call))
+
+pub returns-in-Ok-clause-status : goal.returns-in-Ok-clause-status
+returns-in-Ok-clause-status g c =
+    ap (λ it. tried_status next_status it) c.answer.ensures
+    ∙ told_value _ c.in-Ok.next.got c.in-Ok.ensures.value

@@ -1,5 +1,5 @@
 -- The next phase that was asked for is one of these values, from where the registration asked.
-use Rattle.std.proofs.Common.{◌≡◌, true, sym, ap, subst, ◌∙◌}
+use Rattle.std.proofs.Common.{◌≡◌, ◌≢◌, true, sym, ap, subst, ◌∙◌}
 use Rattle.std.specs.Prelude.{None}
 use Rattle.phase_accum.specs.Parcels.{StandsForSends}
 use Rattle.phase_base.specs.Modes.{mode_signals, mode_waits}
@@ -7,6 +7,9 @@ use Rattle.phase_shared.specs.Regs.{phaser_lock, phaser_terms}
 use Rattle.shared_handle.specs.Members.{AskedRegistration, as_registration, sent_value}
 use Rattle.shared_handle.specs.Calls.{NextCall, both_of}
 use Rattle.shared_handle.proofs.Ending.{gone_both, back_call}
+use Rattle.shared_handle.proofs.Statuses.{told_gone}
+use Rattle.shared_handle.specs.Told.{next_status, tried_status}
+use Rattle.handle_numbers.specs.declared.numbers.TheConstants.{ENDED, SIGNALLED}
 use Rattle.shared_handle.proofs.asked_member.AskedMember.serve.Goals as goal
 
 pub returns-in-Ok-clause-ok : goal.returns-in-Ok-clause-ok
@@ -31,3 +34,8 @@ returns-in-Ok-clause-ok g c =
     c.answer.result) c.into_asked-asked.ensures
     (subst (λ told. NextCall op.value values None (as_registration old) (as_registration new) told)
     (sym c.answer.ensures) call))
+
+pub returns-in-Ok-clause-status : goal.returns-in-Ok-clause-status
+returns-in-Ok-clause-status g c =
+    subst (λ it. (tried_status next_status it ≢ SIGNALLED) × (tried_status next_status it ≢ ENDED))
+    (sym c.answer.ensures) (told_gone c.in-Ok.gone c.in-Ok.ensures.value)

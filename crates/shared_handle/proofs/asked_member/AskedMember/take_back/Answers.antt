@@ -1,11 +1,14 @@
 -- What was taken back is a signal of these values, and a wait where that has an answer.
-use Rattle.std.proofs.Common.{sym, ap, subst, ◌∙◌}
+use Rattle.std.proofs.Common.{◌≢◌, sym, ap, subst, ◌∙◌}
 use Rattle.std.specs.Prelude.{None}
 use Rattle.phase_accum.specs.Parcels.{StandsForSends}
 use Rattle.phase_shared.specs.Regs.{phaser_lock}
 use Rattle.shared_handle.specs.Members.{AskedRegistration, as_registration, sent_value}
 use Rattle.shared_handle.specs.Calls.{NextCall}
 use Rattle.shared_handle.proofs.Ending.{back_call}
+use Rattle.shared_handle.proofs.Statuses.{told_back}
+use Rattle.shared_handle.specs.Told.{next_status, tried_status}
+use Rattle.handle_numbers.specs.declared.numbers.TheConstants.{ENDED}
 use Rattle.shared_handle.proofs.asked_member.AskedMember.take_back.Goals as goal
 
 pub returns-in-Ok-clause-ok : goal.returns-in-Ok-clause-ok
@@ -27,3 +30,8 @@ returns-in-Ok-clause-ok g c =
     c.as_tried.result) c.into_asked.ensures
     (subst (λ told. NextCall op.value values None (as_registration old) (as_registration new) told)
     (sym c.as_tried.ensures) call))
+
+pub returns-in-Ok-clause-status : goal.returns-in-Ok-clause-status
+returns-in-Ok-clause-status g c =
+    subst (λ it. tried_status next_status it ≢ ENDED) (sym c.as_tried.ensures)
+    (told_back c.in-Ok.told c.in-Ok.ensures.value)

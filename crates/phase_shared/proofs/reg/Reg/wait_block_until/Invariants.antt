@@ -1,6 +1,6 @@
 use Rattle.std.specs.Prelude.{◌≡◌}
 use Rattle.phase_shared.proofs.Later.{HasWaited}
-use Rattle.phase_shared.proofs.reg.Reg.wait_block_or_closed.Given as goal
+use Rattle.phase_shared.proofs.reg.Reg.wait_block_until.Given as goal
 
 -- others' events came, and the places are as they were
 abbrev pub invariant-loop : goal.invariant-loop

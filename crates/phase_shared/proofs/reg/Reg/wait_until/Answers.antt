@@ -6,7 +6,7 @@ use Rattle.phase_shared.specs.Calls.{Tries, Waits}
 use Rattle.phase_shared.specs.Closings.{refusal_of_stop}
 use Rattle.phase_shared.specs.Entries.{entry_after_wait}
 use Rattle.phase_shared.proofs.Later.{waits_later, waits_on, accepted, refused}
-use Rattle.phase_shared.proofs.reg.Reg.wait_or_closed.Goals as goal
+use Rattle.phase_shared.proofs.reg.Reg.wait_until.Goals as goal
 
 pub returns-in-Ok-clause-call : goal.returns-in-Ok-clause-call
 returns-in-Ok-clause-call g c =

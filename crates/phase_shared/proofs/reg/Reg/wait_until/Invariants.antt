@@ -1,5 +1,5 @@
 use Rattle.phase_shared.proofs.Later.{HasWaited}
-use Rattle.phase_shared.proofs.reg.Reg.signal_and_wait.Given as goal
+use Rattle.phase_shared.proofs.reg.Reg.wait_until.Given as goal
 
 -- others' events came
 abbrev pub invariant-loop : goal.invariant-loop

@@ -1,5 +1,5 @@
 use Rattle.phase_shared.proofs.Later.{HasWaited}
-use Rattle.phase_shared.proofs.reg.Reg.signal_or_closed.Given as goal
+use Rattle.phase_shared.proofs.reg.Reg.signal_lists_until.Given as goal
 
 -- others' events came
 abbrev pub invariant-loop : goal.invariant-loop

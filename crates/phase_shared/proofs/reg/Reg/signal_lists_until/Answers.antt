@@ -7,7 +7,7 @@ use Rattle.phase_shared.specs.Blocks.{SignalsBlock, entry_after_block}
 use Rattle.phase_shared.specs.Closings.{refusal_of_stop}
 use Rattle.phase_shared.proofs.Later.{waits_on, accepted, refused}
 use Rattle.phase_shared.proofs.LaterBlocks.{may_block_later, signals_block_later}
-use Rattle.phase_shared.proofs.reg.Reg.signal_lists_or_closed.Goals as goal
+use Rattle.phase_shared.proofs.reg.Reg.signal_lists_until.Goals as goal
 
 pub try_signal_lists-requires-clause-rule : goal.try_signal_lists-requires-clause-rule
 try_signal_lists-requires-clause-rule g c =

@@ -8,7 +8,7 @@ use Rattle.phase_shared.specs.Blocks.{WaitsBlock, entry_after_values}
 use Rattle.phase_shared.proofs.Answering.{again}
 use Rattle.phase_shared.proofs.Later.{waits_on_as, accepted, refused}
 use Rattle.phase_shared.proofs.LaterBlocks.{waits_block_later}
-use Rattle.phase_shared.proofs.reg.Reg.wait_block_or_closed.Goals as goal
+use Rattle.phase_shared.proofs.reg.Reg.wait_block_until.Goals as goal
 
 pub returns-in-Ok-clause-call : goal.returns-in-Ok-clause-call
 returns-in-Ok-clause-call g c =

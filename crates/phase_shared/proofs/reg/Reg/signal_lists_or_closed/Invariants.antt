@@ -1,6 +1,0 @@
-use Rattle.phase_shared.proofs.Later.{HasWaited}
-use Rattle.phase_shared.proofs.reg.Reg.signal_lists_or_closed.Given as goal
-
--- others' events came
-abbrev pub invariant-loop : goal.invariant-loop
-invariant-loop g l = HasWaited l.fn.self l.self
