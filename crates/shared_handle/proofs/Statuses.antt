@@ -1,7 +1,7 @@
 -- Statuses: each is a number of 32 bits, and where one tells that nothing was got, nothing is
 -- written.
-use Rattle.std.proofs.Common.{◌≡◌, ◌≢◌, ℕ, ℤ, List, Option, Some, None, refl, sym, ap, ◌∙◌, w32, to_z, of_z}
-use Rattle.std.specs.Prelude.{◌⊎◌, Result, Ok, Err, OnErr, IfOk}
+use Rattle.std.proofs.Common.{◌≡◌, ◌≢◌, ℕ, ℤ, List, Option, Some, None, inl, inr, refl, sym, ap, ◌∙◌, w32, to_z, of_z}
+use Rattle.std.specs.Prelude.{◌⊎◌, Result, Ok, Err, OnErr, IfOk, unwrap_or}
 use Rattle.phase_history.specs.declared.got.Got.{Got}
 use Rattle.phase_history.specs.declared.got.Got.TheVariants as got
 use Rattle.phase_history.specs.declared.got.GotBlock.{GotBlock}
@@ -226,7 +226,7 @@ pub told_gone : (gone : Result Next SignalRefusal) → IfOk gone (λ next. IsVal
     → (tried_status next_status (tried (both_of gone)) ≢ SIGNALLED)
     × (tried_status next_status (tried (both_of gone)) ≢ ENDED)
 told_gone (Ok next) value =
-    let good = told_value _ next.got value in
+    let good = told_value (unwrap_or next.signalled 0) next.got value in
     (λ e. good_is_no_signal (sym good ∙ e), λ e. good_is_no_end (sym good ∙ e))
 told_gone (Err refusal) value = refused_apart refusal
 

@@ -1,6 +1,6 @@
 -- The next phase that was asked for is one of these values, from where the registration asked.
 use Rattle.std.proofs.Common.{◌≡◌, true, sym, ap, subst, ◌∙◌}
-use Rattle.std.specs.Prelude.{None, Ok}
+use Rattle.std.specs.Prelude.{None, Ok, unwrap_or}
 use Rattle.phase_accum.specs.Parcels.{StandsForSends}
 use Rattle.phase_base.specs.Modes.{mode_signals, mode_waits}
 use Rattle.phase_shared.specs.Regs.{phaser_lock, phaser_terms}
@@ -37,4 +37,4 @@ returns-in-Ok-clause-ok g c =
 pub returns-in-Ok-clause-status : goal.returns-in-Ok-clause-status
 returns-in-Ok-clause-status g c =
     ap (λ it. tried_status next_status it) c.answer.ensures
-    ∙ told_value _ c.in-Ok.next.got c.in-Ok.ensures.value
+    ∙ told_value (unwrap_or c.in-Ok.next.signalled 0) c.in-Ok.next.got c.in-Ok.ensures.value
