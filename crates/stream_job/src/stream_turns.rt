@@ -272,7 +272,7 @@ impl Stream {
         let (plan, buffers) = (&self.plan, &mut self.buffers);
         let went = self
             .machine
-            .make_in_range(&self.job, plan, buffers, t, awaits, most)?;
+            .go(&self.job, plan, buffers, t, awaits, most)?;
         self.plan.pass(&self.job, &self.machine.tasks, t);
         Ok(went)
     }
