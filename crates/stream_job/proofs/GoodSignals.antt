@@ -505,6 +505,10 @@ first_is_out (Err o ∷ rs) e = record { out = o; rest = rs; are = refl }
 
 -- ---- what is put
 
+pub some_made : (items : List (Result ℤ TooBigValue)) → items ≢ [] → 1 ≤ length items
+some_made [] some = absurd (some refl)
+some_made (v ∷ vs) some = omega arith
+
 -- the first so many of these ranges, all of which are in range, are a good part
 pub put_many : (items : List (Result ℤ TooBigValue)) (vs : List ℤ) (many : ℕ)
     → many ≤ length items → map (λ x. Ok x) vs ≡ take many items → length vs ≡ many
@@ -530,18 +534,22 @@ none_before : (from from' k n : ℕ) (xs : List ℤ)
     → position_from is_out_of_range from' (take n xs) ≡ None
 none_before from from' k zero xs found is = refl
 none_before from from' k (suc n) [] found is = refl
-none_before from from' k (suc n) (x ∷ xs) found is = by (is_out_of_range x) refl found
+none_before from from' k (suc n) (x ∷ xs) found is =
+    by (is_out_of_range x) refl found
+    (λ rest. none_before (from + 1) (from' + 1) k n xs rest (omega arith))
   where
     by : (b : Bool) → is_out_of_range x ≡ b
         → cond b (Some from) (position_from is_out_of_range (from + 1) xs) ≡ Some k
+        → (position_from is_out_of_range (from + 1) xs ≡ Some k
+        → position_from is_out_of_range (from' + 1) (take n xs) ≡ None)
         → position_from is_out_of_range from' (take (suc n) (x ∷ xs)) ≡ None
-    by true out first = absurd (let same = same_Some from k first in omega arith)
-    by false out rest =
+    by true out first more = absurd (let same = same_Some from k first in omega arith)
+    by false out rest more =
         ap (λ b. cond b (Some from') (position_from is_out_of_range (from' + 1) (take n xs))) out
-        ∙ none_before (from + 1) (from' + 1) k n xs rest (omega arith)
+        ∙ more rest
 
 -- a signal of these tells none that is
-part_none : {steps : ℕ} (job : Job) (old : Machine) (m : Moment) (t many : ℕ)
+part_none : (job : Job) (old : Machine) (m : Moment) (t many : ℕ)
     → IsGoodPart many job old t → IsMachineAt job m old
     → TellsNone job m (turn_up_to 1 many job m t)
 part_none job old m t many part at =
@@ -550,7 +558,7 @@ part_none job old m t many part at =
     subst (λ n. TellsNone job m (answer_up_to 1 many job m t n)) (sym (part.next m at))
     (turn_none job m t 0 vs (signal t 0 q (number_on m t q) vs)
     (λ made. none_before 0 (length (m.put t 0)) many many
-    (drop (length (m.put t 0)) (made_now job m t 0)) (part.good m at) refl) refl)
+    (drop (length (m.put t 0)) (made_now job m t 0)) (part.good m at) (omega arith)) refl)
 
 -- a filter whose signal of them would be blocked is held up
 part_held : (job : Job) (old : Machine) (m : Moment) (t many : ℕ) → IsGoodPart many job old t
@@ -651,12 +659,12 @@ made_some (code.Value i (Ok v)) [] n some = absurd (cc)
 made_some (code.Value i (Err out)) [] n some =
     absurd (let wrong = same_Some 0 (suc n) some in omega arith)
 
-pub owed_part : {steps : ℕ} (job : Job) (machine : Machine) (t j n : ℕ) (state : TaskState)
+part_owed : {steps : ℕ} (job : Job) (machine : Machine) (t j n : ℕ) (state : TaskState)
     → IsNextIn steps job machine t (turns.signals j)
     → slice_get machine.tasks.items t ≡ Some state
     → good_in (owed_in state.owed state.made.items) ≡ Some (suc n)
     → IsGoodPart (suc n) job machine t
-owed_part {steps} job machine t j n state next found good = record {
+part_owed {steps} job machine t j n state next found good = record {
   some = omega arith;
   few = (let m = next.some.0 in let at = next.some.1 in
       let over = over m at in
@@ -694,3 +702,12 @@ owed_part {steps} job machine t j n state next found good = record {
         first_over (rest_of m) o.0 0 0 (suc n)
         (ap (map ranged) (sym (take_all (most_in machine t) (rest_of m) small)) ∙ o.2)
         (sym (ap good_in o.1) ∙ good)
+
+pub owed_part : {steps : ℕ} (job : Job) (machine : Machine) (t j many : ℕ) (state : TaskState)
+    → IsNextIn steps job machine t (turns.signals j)
+    → slice_get machine.tasks.items t ≡ Some state
+    → good_in (owed_in state.owed state.made.items) ≡ Some many → 0 < many
+    → IsGoodPart many job machine t
+owed_part job machine t j zero state next found good some = absurd (omega arith)
+owed_part job machine t j (suc n) state next found good some =
+    part_owed job machine t j n state next found good

@@ -56,6 +56,9 @@ use Rattle.stream_job.proofs.WentTurns.{all_steps}
 abbrev pub IsReply : Result GotBlock WaitRefusal → Result GotBlock WaitRefusal → Type 0
 IsReply a b = a ≡ b
 
+pub same_given : (a b : GotBlock) → IsReply (Ok a) (Ok b) → a ≡ b
+same_given a b e = cc
+
 -- what a wait for the whole block would get, of which so many are in range
 pub record WouldGet (stream : List Outcome) (reply : Result GotBlock WaitRefusal) (phase count : ℕ)
     : Type 0 where
@@ -204,6 +207,11 @@ asks_fewer {allowed} job old t k number p steps n state good asks some few =
     }
 
 -- ---- the turn
+
+-- values in range are told as a move
+pub moved_told : (p phase : ℕ) (outcomes : List Outcome)
+    → position_from is_too_big phase outcomes ≡ None → answers.Moved ≡ told_got p phase outcomes
+moved_told p phase outcomes none = rw none refl
 
 -- a task whose own phase has a value too big stands before it
 pub first_stands : {allowed : ℕ} (job : Job) (old : Machine) (m : Moment)
@@ -356,7 +364,7 @@ told_none m p n phase outcomes same none =
     subst (λ w. is_plain (Some (told_got p w outcomes)) ≡ true) same (rw none refl)
 
 -- what a wait got by its event
-outcomes_in : Answer → List Outcome
+abbrev outcomes_in : Answer → List Outcome
 outcomes_in (makes (first_wait t k p n outcomes)) = outcomes
 outcomes_in answer = []
 
@@ -467,6 +475,30 @@ module _ {allowed : ℕ} (job : Job) (old : Machine) (t k number p steps : ℕ) 
               (first_room job old m t k number p steps phase count (outcomes m) state asks at
               (would m at) all.many room sink)));
         }
+
+-- where the one value that is asked for is ahead, a wait for it gets it
+pub record IsOneAhead (stream : List Outcome) (limits : Limits) (h : History) (n phase : ℕ)
+    : Type 0 where
+  pub reply : wait_block_reply limits h n 1 ≡ Ok (block.Values phase 1)
+  pub none : position_from is_too_big phase (slice_range stream phase (phase + 1)) ≡ None
+
+pub one_ahead : (stream : List Outcome) (limits : Limits) (h : History) (n phase count : ℕ)
+    → 0 < count
+    → before_too_big stream (wait_block_reply limits h n 1) ≡ Ok (block.Values phase count)
+    → IsOneAhead stream limits h n phase
+one_ahead stream limits h n phase count some told =
+    let w = would_get stream (wait_block_reply limits h n 1) phase count told in
+    let good = got_good stream _ phase count (slice_range stream phase (phase + count)) w refl in
+    let tells = block_tells limits h n 1 phase w.all w.reply_is in
+    let few = good.few in
+    let least = tells.count_is in
+    let one : count ≡ 1 = omega arith in
+    record {
+      reply = subst (λ k. wait_block_reply limits h n k ≡ Ok (block.Values phase k)) one
+          (good_block stream limits h n 1 phase count told some);
+      none = subst (λ k. position_from is_too_big phase (slice_range stream phase (phase + k))
+          ≡ None) one good.none;
+    }
 
 -- ---- what is ahead of a peer's wait
 

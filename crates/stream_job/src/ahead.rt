@@ -67,9 +67,9 @@ impl Machine {
         match self.ahead(job, plan, t, step, most) {
             Ahead::Before { place, phase } => Ok(Went::Before { place, phase }),
             Ahead::Values { many } => Ok(self.signal_made(job, buffers, t, many).went()),
-            Ahead::Steps { most } => Ok(self
-                .make(job, plan, buffers, t, awaits, step, most)?
-                .went()),
+            Ahead::Steps { most } => Ok(
+                self.make(job, plan, buffers, t, awaits, step, most)?.went(),
+            ),
         }
     }
 

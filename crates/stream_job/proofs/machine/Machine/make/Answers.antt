@@ -2,28 +2,17 @@
 use Rattle.std.proofs.Common.{◌≡◌, ◌≢◌, ℤ, List, ap, ◌∙◌, sym, subst}
 use Rattle.stream_lists.specs.Jobs.{with_samples}
 use Rattle.graph_runs.proofs.Signalling.{live-is}
-use Rattle.graph_runs.specs.Nexts.{is_not_live}
 use Rattle.stream_job.specs.Stepping.{IsNextIn, MayDo}
 use Rattle.stream_job.specs.Machines.{MayHaveCome, most_in, next_by}
 use Rattle.stream_job.specs.Turning.{IsRegistration}
 use Rattle.stream_job.specs.declared.step.Step.{Step}
 use Rattle.stream_job.specs.declared.step.Step.TheVariants as step
-use Rattle.stream_job.proofs.Lively.{live_next}
+use Rattle.stream_job.proofs.Lively.{live_next, makes_one}
 use Rattle.stream_job.proofs.Numbering.{few_after}
 use Rattle.stream_job.proofs.Setting.{if_ok, on_err}
 use Rattle.stream_job.proofs.Tellings.{gone_turn}
 use Rattle.stream_job.proofs.machine.Machine.make.Goals.{After-turns_up_to}
 use Rattle.stream_job.proofs.machine.Machine.make.Goals as goal
-
--- a step that is one
-makes_one : (it : Step) → it ≢ step.NotLive → next_by it ≢ is_not_live
-makes_one step.NotLive never = λ e. absurd (never (cc))
-makes_one (step.Register child) never = λ e. (cc)
-makes_one step.Leave never = λ e. (cc)
-makes_one step.Sample never = λ e. (cc)
-makes_one (step.Signal output) never = λ e. (cc)
-makes_one (step.Wait input) never = λ e. (cc)
-makes_one step.Exchange never = λ e. (cc)
 
 -- with whatever samples may have come this is what a live task does next
 next_in : (c : After-turns_up_to) → c.args.step ≢ step.NotLive → (s : List (List ℤ))
