@@ -165,25 +165,34 @@ outputs-entry taps form samples n default lt =
 adds_none : (z : ℤ) → z +ℤ pos 0 ≡ z
 adds_none z = omega (arith, ints)
 
-pub plain-ahead : (taps : List ℤ) (form : Form) → IsPlain form → taps_ahead taps form ≡ taps
-plain-ahead taps form plain =
-    let none = plain.again_none in take_all (length taps - form.again) taps (omega arith)
-
-pub plain-again : (taps : List ℤ) (form : Form) → IsPlain form → taps_again taps form ≡ []
-plain-again taps form plain =
-    let none = plain.again_none in drop_of_length-le taps (omega arith)
-
 -- their output hangs on no puts
+pub alone-seen : (taps : List ℤ) (form : Form) (samples puts : ℕ → ℤ) → form.again ≡ 0
+    → output_seen taps form samples puts
+    ≡ with_single form.single (shifted_down (summed samples taps form) form.shift)
+alone-seen taps form samples puts none =
+    let ahead : taps_ahead taps form ≡ taps =
+    take_all (length taps - form.again) taps (omega arith) in
+    let again : taps_again taps form ≡ [] = drop_of_length-le taps (omega arith) in
+    ap (λ l. with_single form.single (shifted_down (summed samples l form
+    +ℤ weighted puts (taps_again taps form)) form.shift)) ahead
+    ∙ (ap (λ l. with_single form.single (shifted_down (summed samples taps form
+    +ℤ weighted puts l) form.shift)) again
+    ∙ ap (λ z. with_single form.single (shifted_down z form.shift))
+    (adds_none (summed samples taps form)))
+
+-- so it is that of the last samples
+pub alone-after : (taps : List ℤ) (form : Form) (samples : List ℤ) (x : ℤ) → form.again ≡ 0
+    → output_after taps form (samples ++ x ∷ []) ≡ with_single form.single
+    (shifted_down (summed (back (samples ++ x ∷ [])) taps form) form.shift)
+alone-after taps form samples x none =
+    output_after-push taps form samples x
+    ∙ alone-seen taps form (back (samples ++ x ∷ [])) (back (puts_of taps form samples)) none
+
 pub plain-seen : (taps : List ℤ) (form : Form) (samples puts : ℕ → ℤ) → IsPlain form
     → output_seen taps form samples puts ≡ shifted_down (summed samples taps form) form.shift
 plain-seen taps form samples puts plain =
-    ap (λ s. with_single s (shifted_down (summed samples (taps_ahead taps form) form
-    +ℤ weighted puts (taps_again taps form)) form.shift)) plain.single_none
-    ∙ (ap (λ l. shifted_down (summed samples l form
-    +ℤ weighted puts (taps_again taps form)) form.shift) (plain-ahead taps form plain)
-    ∙ (ap (λ l. shifted_down (summed samples taps form +ℤ weighted puts l) form.shift)
-    (plain-again taps form plain)
-    ∙ ap (λ z. shifted_down z form.shift) (adds_none (summed samples taps form))))
+    alone-seen taps form samples puts plain.again_none
+    ∙ ap (λ s. with_single s (shifted_down (summed samples taps form) form.shift)) plain.single_none
 
 pub plain-behind : (taps : List ℤ) (form : Form) (taken puts xs : List ℤ) → IsPlain form
     → outputs_behind taps form taken puts xs ≡ weighed_behind taps form taken xs
