@@ -263,6 +263,7 @@ has-taps (fir input output shift plus taps) is e =
     record {
       some = omega (arith, same, some);
       few = omega (arith, same, few);
+      again_few = omega arith;
       small = All-map (λ tap. unsigned_abs tap ≤ 2147483647) int_value taps
           (each-passed is_tap_within (λ tap. unsigned_abs (int_value tap) ≤ 2147483647)
           (λ tap. leb-true (unsigned_abs (int_value tap)) TAP_MAX) taps each.1);
@@ -273,6 +274,7 @@ has-taps (fir input output shift plus taps) is e =
 has-taps (delay input output steps) is e = record {
   some = omega arith;
   few = omega arith;
+  again_few = omega arith;
   small = one-small;
   shift_small = omega arith;
   plus_small = omega arith;

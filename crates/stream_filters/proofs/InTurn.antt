@@ -7,20 +7,7 @@ use Rattle.stream_filters.specs.Filter.{output_after, output_behind, outputs, ou
 use Rattle.stream_filters.specs.FilterFields.{MadeSoFar}
 use Rattle.stream_filters.specs.Range.{is_out_of_range, ranged}
 use Rattle.stream_filters.proofs.Made.{ranged-ok}
-use Rattle.stream_filters.proofs.Outputs.{output_after-push, outputs-block, outputs-entry, outputs-length}
-
--- the outputs of the first samples are the first outputs
-outputs-take : (taps : List ℤ) (form : Form) (samples : List ℤ) (n : ℕ) → n < length samples
-    → outputs taps form (take n samples) ≡ take n (outputs taps form samples)
-outputs-take taps form samples n lt =
-    let first = take n samples in
-    let rest = outputs_of_block taps form first (drop n samples) in
-    let long : length (outputs taps form first) ≡ n =
-    outputs-length taps form first ∙ length-take-le n samples (omega arith) in
-    sym (ap (take n) (ap (λ l. outputs taps form l) (sym (take-append-drop n samples))
-    ∙ outputs-block taps form first (drop n samples))
-    ∙ (take-append-le n (outputs taps form first) rest (omega arith)
-    ∙ take_all n (outputs taps form first) (omega arith)))
+use Rattle.stream_filters.proofs.Outputs.{behind-take, output_after-push, outputs-block, outputs-entry, outputs-length}
 
 -- the output at the next sample
 pub next-output : (taps : List ℤ) (form : Form) (samples list : List ℤ) (n : ℕ)
@@ -32,7 +19,7 @@ next-output taps form samples list n made put lt =
     let x = get_or samples n (pos 0) in
     let more : take (n + 1) samples ≡ first ++ x ∷ [] = take_more samples n (pos 0) lt in
     let puts : puts_of taps form first ≡ list =
-    ap (map put_of) (outputs-take taps form samples n lt ∙ sym made.list_is) ∙ put in
+    ap (map put_of) (behind-take n taps form [] [] samples ∙ sym made.list_is) ∙ put in
     outputs-entry taps form samples n (pos 0) lt
     ∙ (ap (output_after taps form) more
     ∙ (output_after-push taps form first x

@@ -83,6 +83,17 @@ length-outputs_behind taps form taken puts (x ∷ xs) =
     let y = output_behind taps form (taken ++ x ∷ []) puts in
     ap suc (length-outputs_behind taps form (taken ++ x ∷ []) (puts ++ put_of y ∷ []) xs)
 
+-- the outputs at the first samples are the first outputs
+pub behind-take : (n : ℕ) (taps : List ℤ) (form : Form) (taken puts xs : List ℤ)
+    → outputs_behind taps form taken puts (take n xs)
+    ≡ take n (outputs_behind taps form taken puts xs)
+behind-take zero taps form taken puts xs = refl
+behind-take (suc n) taps form taken puts [] = refl
+behind-take (suc n) taps form taken puts (x ∷ xs) =
+    let next = taken ++ x ∷ [] in
+    let y = output_behind taps form next puts in
+    ap (λ ys. y ∷ ys) (behind-take n taps form next (puts ++ put_of y ∷ []) xs)
+
 -- the outputs of a block behind those of what was taken
 pub outputs-block : (taps : List ℤ) (form : Form) (taken xs : List ℤ)
     → outputs taps form (taken ++ xs)

@@ -5,7 +5,7 @@ use Rattle.phase_accum.specs.Values.{single_of}
 use Rattle.phase_accum.specs.declared.single.Single.{Single}
 pub use Rattle.stream_filters.specs.Sums.{at_place, back, shifted_down, summed, weight, weighted}
 use Rattle.stream_filters.specs.Range.{is_out_of_range}
-use Rattle.stream_filters.specs.declared.fir.TheConstants.{AGAIN_MAX, DELAY_MAX, PLUS_MAX, SHIFT_MAX, TAP_MAX, TAPS_MAX}
+use Rattle.stream_filters.specs.declared.fir.TheConstants.{AGAIN_MAX, DELAY_MAX, FEW_TAPS_MAX, PLUS_MAX, SHIFT_MAX, TAP_MAX, TAPS_MAX}
 use Rattle.stream_filters.specs.declared.form.Form.{Form}
 
 -- the form of what only weighs its newest samples
@@ -117,3 +117,7 @@ pub record AreTaps (taps : List ℤ) (form : Form) : Type 0 where
   pub shift_small : form.shift ≤ SHIFT_MAX
   pub plus_small : unsigned_abs form.plus ≤ PLUS_MAX
   pub delay_small : form.delay ≤ DELAY_MAX
+
+-- and no more taps than one that is made by its shift alone
+abbrev pub AreFewTaps : List ℤ → Form → Type 0
+AreFewTaps taps form = AreTaps taps form × (length taps ≤ FEW_TAPS_MAX)

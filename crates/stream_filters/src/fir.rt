@@ -1,6 +1,6 @@
 //! The filter.
 ghost use Rattle.std.specs.Prelude.{◌≡◌, ◌↔◌, ◌+◌, ◌-◌, ◌^◌, ◌<◌, ◌≤◌, List, [], ◌∷◌, ◌++◌, ℤ, length, take, reverse, vec_capacity, IsTrue, IsOk, IfOk, false};
-ghost use Rattle.stream_filters.specs.Filter.{AreTaps, StandsFor, after_sample, by_shift, output_after, output_of, outputs_of_block, put_of, with_put};
+ghost use Rattle.stream_filters.specs.Filter.{AreFewTaps, AreTaps, StandsFor, after_sample, by_shift, output_after, output_of, outputs_of_block, put_of, with_put};
 ghost use Rattle.stream_filters.specs.Range.{before_out_of_range, ranged};
 
 use crate::blocks::BLOCK;
@@ -93,7 +93,7 @@ impl Fir {
         ensures form { IfOk result (λ fir. fir.form ≡ by_shift shift) }
 
         ensures bad_taps { (result ≡ Err FirFault.BadTaps)
-            ↔ ¬ (AreTaps taps.now (by_shift shift) × (length taps.now ≤ FEW_TAPS_MAX)) }
+            ↔ ¬ (AreFewTaps taps.now (by_shift shift)) }
     {
         if taps.len() > FEW_TAPS_MAX {
             return Err(FirFault::BadTaps);
