@@ -14,7 +14,7 @@ use Rattle.phase_base.specs.Numbers.{is_nat, nat_value, int_value}
 use Rattle.graph_text.specs.Decls.{task, BodyWords, source, fir, delay, decimate, split, join, peer, sink, ByWords, EndWords, IsBody, IsBy, AreEnds, MayHaveBy, may_have_parent, may_join_now, may_have_blocks}
 use Rattle.graph_text.specs.declared.version.Version.{Version}
 use Rattle.graph_text.specs.declared.version.Version.TheVariants.{Three}
-use Rattle.stream_filters.specs.declared.fir.TheConstants.{DELAY_MAX, PLUS_MAX, TAPS_MAX, TAP_MAX, SHIFT_MAX}
+use Rattle.stream_filters.specs.declared.fir.TheConstants.{DELAY_MAX, PLUS_MAX, FEW_TAPS_MAX, TAP_MAX, SHIFT_MAX}
 use Rattle.graph_base.specs.Graphs.{Graph, Task, Named, IsPlace, task_at, phaser_at}
 use Rattle.graph_base.specs.Names.{place_of, phaser_number, task_number, phaser_named, task_named}
 use Rattle.graph_lang.specs.WordValues.{or_zero, phaser_numbers, parent_of, task_line, kind_of_body, inputs_of, outputs_of, taps_of, plus_of, filter_form, factor_of, every_of, block_of, joins_now}
@@ -253,16 +253,17 @@ has-taps : (body : BodyWords) → IsBody Three body → is_body_within body ≡ 
 has-taps (source file output) is e = (refl, refl)
 has-taps (fir input output shift plus taps) is e =
     let each = and_parts (nat_le (nat_value shift) SHIFT_MAX && is_plus_within plus
-    && nat_le (length taps) TAPS_MAX) (list_all is_tap_within taps) e in
+    && nat_le (length taps) FEW_TAPS_MAX) (list_all is_tap_within taps) e in
     let counts = and_parts (nat_le (nat_value shift) SHIFT_MAX && is_plus_within plus)
-    (nat_le (length taps) TAPS_MAX) each.0 in
+    (nat_le (length taps) FEW_TAPS_MAX) each.0 in
     let limits = and_parts (nat_le (nat_value shift) SHIFT_MAX) (is_plus_within plus) counts.0 in
     let same = length-map taps int_value in
     let some = is.4.0 in
-    let few = leb-true (length taps) TAPS_MAX counts.1 in
+    let few = leb-true (length taps) FEW_TAPS_MAX counts.1 in
     record {
       some = omega (arith, same, some);
       few = omega (arith, same, few);
+      again_few = omega arith;
       small = All-map (λ tap. unsigned_abs tap ≤ 2147483647) int_value taps
           (each-passed is_tap_within (λ tap. unsigned_abs (int_value tap) ≤ 2147483647)
           (λ tap. leb-true (unsigned_abs (int_value tap)) TAP_MAX) taps each.1);
@@ -273,6 +274,7 @@ has-taps (fir input output shift plus taps) is e =
 has-taps (delay input output steps) is e = record {
   some = omega arith;
   few = omega arith;
+  again_few = omega arith;
   small = one-small;
   shift_small = omega arith;
   plus_small = omega arith;

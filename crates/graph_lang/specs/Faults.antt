@@ -20,7 +20,7 @@ use Rattle.graph_base.specs.declared.line.Kind.TheVariants as kind
 use Rattle.graph_base.specs.declared.line.Parent.{Parent}
 use Rattle.graph_lang.specs.declared.fault.FaultKind.{FaultKind}
 use Rattle.graph_lang.specs.declared.fault.FaultKind.TheVariants.{Limit, Twice, Unknown, OutBeforeIn, BadParent, NotHeld, OverBound}
-use Rattle.stream_filters.specs.declared.fir.TheConstants.{DELAY_MAX, PLUS_MAX, TAPS_MAX, TAP_MAX, SHIFT_MAX}
+use Rattle.stream_filters.specs.declared.fir.TheConstants.{DELAY_MAX, PLUS_MAX, FEW_TAPS_MAX, TAP_MAX, SHIFT_MAX}
 
 -- ---- limits
 
@@ -57,7 +57,7 @@ is_number_of_ends n = nat_le 2 n && nat_le n ENDS_MAX
 abbrev pub is_body_within : BodyWords → Bool
 is_body_within (source file output) = true
 is_body_within (fir input output shift plus taps) =
-    nat_le (nat_value shift) SHIFT_MAX && is_plus_within plus && nat_le (length taps) TAPS_MAX
+    nat_le (nat_value shift) SHIFT_MAX && is_plus_within plus && nat_le (length taps) FEW_TAPS_MAX
     && list_all is_tap_within taps
 is_body_within (delay input output steps) = nat_le (nat_value steps) DELAY_MAX
 is_body_within (decimate input output every) =

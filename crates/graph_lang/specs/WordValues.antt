@@ -86,7 +86,7 @@ plus_of (Some plus) = int_value plus
 -- the form of a filter or a delay, and none of another task
 abbrev pub filter_form : BodyWords → Form
 filter_form (fir input output shift plus taps) =
-    record { shift = nat_value shift; plus = plus_of plus; delay = 0 }
+    record no_form { shift = nat_value shift; plus = plus_of plus }
 filter_form (delay input output steps) = record no_form { delay = nat_value steps }
 filter_form body = no_form
 

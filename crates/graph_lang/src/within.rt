@@ -19,7 +19,7 @@ use graph_text::{Body, Ends, Function, PhaserWords, int_within, nat_within};
 use phase_accum::{MAGNITUDE_MAX, Single};
 use phase_base::BOUND_MAX;
 use std::alloc::{AllocError, Global};
-use stream_filters::{DELAY_MAX, Form, PLUS_MAX, SHIFT_MAX, TAP_MAX, TAPS_MAX};
+use stream_filters::{DELAY_MAX, FEW_TAPS_MAX, Form, PLUS_MAX, SHIFT_MAX, TAP_MAX};
 
 // ---- phasers
 
@@ -156,10 +156,9 @@ fn form_of(shift: &[u8], plus: Option<&[u8]>) -> Option<Form>
     requires plus { IfSome (word_of plus) (λ word. IsTrue (is_int word)) }
     ensures { result
         ≡ (if nat_le (nat_value shift.now) SHIFT_MAX && is_plus_within (word_of plus.entry)
-        then Some (record {
+        then Some (record no_form {
           shift = nat_value shift.now;
           plus = plus_of (word_of plus.entry);
-          delay = 0;
         })
         else None) }
 {
@@ -167,6 +166,8 @@ fn form_of(shift: &[u8], plus: Option<&[u8]>) -> Option<Form>
         shift: shift_of(shift)?,
         plus: plus_of(plus)?,
         delay: 0,
+        again: 0,
+        single: None,
     })
 }
 
@@ -198,19 +199,18 @@ fn filter_numbers(
     requires taps { IsTrue (list_all is_int (plain taps.now)) }
     ensures within { IfOk result (λ found. is_some found
         ≡ (nat_le (nat_value shift.now) SHIFT_MAX && is_plus_within (word_of plus.entry)
-        && nat_le (length taps.now) TAPS_MAX && list_all is_tap_within (plain taps.now))) }
+        && nat_le (length taps.now) FEW_TAPS_MAX && list_all is_tap_within (plain taps.now))) }
     ensures numbers { IfOk result (λ found. IfSome found (λ numbers.
         (numbers.taps.items ≡ map int_value (plain taps.now))
-        × (numbers.form ≡ record {
+        × (numbers.form ≡ record no_form {
           shift = nat_value shift.now;
           plus = plus_of (word_of plus.entry);
-          delay = 0;
         }) × (numbers.factor ≡ pos 0) × (numbers.every ≡ 1))) }
 {
     let Some(form) = form_of(shift, plus) else {
         return Ok(None);
     };
-    if taps.len() > TAPS_MAX {
+    if taps.len() > FEW_TAPS_MAX {
         return Ok(None);
     }
     match taps_of(alloc, taps)? {
@@ -241,6 +241,8 @@ fn delay_numbers(alloc: Global, steps: &[u8]) -> Result<Option<Numbers>, AllocEr
         shift: 0,
         plus: 0,
         delay: steps as usize,
+        again: 0,
+        single: None,
     };
     Ok(Some(Numbers {
         taps: Vec::from_slice(alloc, &[1])?,
@@ -256,9 +258,16 @@ fn numbers_with(alloc: Global, factor: i64, every: u64) -> Numbers
     ensures { (result.taps.items ≡ []) × (result.form ≡ no_form) × (result.factor ≡ factor)
         × (result.every ≡ every) }
 {
+    let form = Form {
+        shift: 0,
+        plus: 0,
+        delay: 0,
+        again: 0,
+        single: None,
+    };
     Numbers {
         taps: Vec::new(alloc),
-        form: Form::by_shift(0),
+        form,
         factor,
         every,
     }

@@ -8,7 +8,8 @@ use Rattle.std.proofs.lemmas.Bool.{le-leb}
 use Rattle.std.proofs.lemmas.Nat.{mod_below}
 use Rattle.phase_history.proofs.Streams.{IsPrefix-trans}
 use Rattle.stream_filters.specs.declared.form.Form.{Form}
-use Rattle.stream_filters.specs.Filter.{outputs, output_at, output_after}
+use Rattle.stream_filters.specs.Filter.{outputs, outputs_of_block}
+use Rattle.stream_filters.proofs.Outputs.{outputs-block}
 use Rattle.graph_base.specs.declared.line.Kind.{Kind}
 use Rattle.graph_base.specs.declared.line.Kind.TheVariants.{Source, Fir, Split, Decimate, Join, Peer, Sink}
 use Rattle.graph_base.specs.Graphs.{Task}
@@ -44,9 +45,8 @@ ranges_begin f g a b le same =
 fir_begins : (taps : List ℤ) (form : Form) (xs ys : List ℤ) → IsPrefix xs ys
     → IsPrefix (outputs taps form xs) (outputs taps form ys)
 fir_begins taps form xs ys a =
-    ranges_begin (output_at taps form xs) (output_at taps form ys) (length xs) (length ys)
-    (prefix_length xs ys a)
-    (λ i lt. ap (λ l. output_after taps form l) (take_of_prefix (suc i) xs ys a (omega arith)))
+    (outputs_of_block taps form xs a.0,
+    sym (outputs-block taps form xs a.0) ∙ ap (λ l. outputs taps form l) a.1)
 
 every_begins : (m j : ℕ) (xs ys : List ℤ) → j < m → IsPrefix xs ys
     → IsPrefix (every m j xs) (every m j ys)

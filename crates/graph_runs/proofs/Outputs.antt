@@ -1,9 +1,10 @@
 -- The phaser of an output, and what a filter owes there.
-use Rattle.std.proofs.Common.{◌≡◌, ℕ, ◌<◌, List, ℤ, [], ◌∷◌, ◌++◌, length, ap, inl}
+use Rattle.std.proofs.Common.{◌≡◌, ℕ, ◌<◌, List, ℤ, [], ◌∷◌, ◌++◌, length, map, sym, ap, ◌∙◌, inl}
 use Rattle.std.specs.Prelude.{Result}
 use Rattle.stream_filters.specs.declared.fault.TooBigValue.{TooBigValue}
 use Rattle.stream_filters.specs.Range.{ranged}
 use Rattle.stream_filters.specs.Filter.{output_after}
+use Rattle.stream_filters.proofs.Outputs.{outputs_of_block-one}
 use Rattle.graph_base.specs.declared.line.Kind.TheVariants.{Fir}
 use Rattle.graph_runs.specs.TaskPlaces as turns
 use Rattle.graph_base.specs.Graphs.{Task, task_at}
@@ -25,4 +26,6 @@ output_there job t j is there few =
 pub filter_owes : (task : Task) (begun : ℕ) (taken : List ℤ) (x : ℤ) (answer : Result ℤ TooBigValue)
     → task.kind ≡ Fir → answer ≡ ranged (output_after task.taps task.form (taken ++ x ∷ []))
     → turns.values 0 (answer ∷ []) ≡ turns.owed_after_wait task begun taken (x ∷ [])
-filter_owes task begun taken x answer kind is = rw kind (ap (λ v. turns.values 0 (v ∷ [])) is)
+filter_owes task begun taken x answer kind is =
+    rw kind (ap (λ v. turns.values 0 (v ∷ [])) is
+    ∙ ap (λ l. turns.values 0 (map ranged l)) (sym (outputs_of_block-one task.taps task.form taken x)))

@@ -23,7 +23,7 @@ pub fn first_filter(alloc: Global, job: &Job, t: usize) -> Result<Option<Fir>, A
         return Ok(None);
     }
     let line = job.graph().task(t);
-    match Fir::new(alloc, &line.taps, line.form) {
+    match Fir::with_form(alloc, &line.taps, line.form) {
         Ok(fir) => Ok(Some(fir)),
         Err(FirFault::OutOfMemory) => Err(AllocError),
         Err(FirFault::BadTaps) => unreachable!(),

@@ -5,7 +5,7 @@ use crate::explain_parts::Part;
 use graph_lang::{ENDS_MAX, EVERY_MAX, FACTOR_MAX, STEPS_MAX};
 use phase_accum::MAGNITUDE_MAX;
 use phase_base::{BOUND_MAX, nat};
-use stream_filters::{DELAY_MAX, PLUS_MAX, SHIFT_MAX, TAP_MAX, TAPS_MAX};
+use stream_filters::{DELAY_MAX, FEW_TAPS_MAX, PLUS_MAX, SHIFT_MAX, TAP_MAX};
 
 /// The digits of a number, which stand behind `block=` or a minus where that is there.
 fn digits_in(word: &[u8]) -> &[u8] {
@@ -68,7 +68,7 @@ pub(crate) fn limit_passed(part: Part, word: &[u8]) -> Option<&'static str> {
 /// they are too many or too few.
 pub(crate) fn count_passed(part: Part, number: usize, count: usize) -> Option<&'static str> {
     match part {
-        Part::Taps if number >= TAPS_MAX => Some("at most 64 taps"),
+        Part::Taps if number >= FEW_TAPS_MAX => Some("at most 64 taps"),
         Part::Outputs if number >= ENDS_MAX || count < 2 => Some("2 to 8 outputs"),
         Part::Inputs if number >= ENDS_MAX || count < 2 => Some("2 to 8 inputs"),
         _ => None,

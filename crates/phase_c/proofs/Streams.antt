@@ -7,12 +7,13 @@ use Rattle.std.proofs.lemmas.Grind.{drop_more_same}
 use Rattle.std.proofs.lemmas.List.{drop-set-lt, take_more, take_more_set, reverse-append, length-reverse, get_or_append_left, get_or-append_right, get_or-drop, get_or-reverse, length-drop, length-take-le}
 use Rattle.std.proofs.lemmas.List.FromFn.{map-range_with_len_more}
 use Rattle.phase_accum.specs.Sends.{AreSends, IsSend, value_max}
-use Rattle.stream_filters.specs.Filter.{FirState, StandsFor, back, output_after, reach, shifted_down}
+use Rattle.stream_filters.specs.Filter.{FirState, StandsFor, back, output_after, reach, shifted_down, summed, with_single}
 use Rattle.stream_filters.specs.declared.form.Form.{Form}
 use Rattle.stream_filters.specs.Range.{ranged}
 use Rattle.stream_filters.specs.declared.fault.TooBigValue.{TooBigValue}
 use Rattle.stream_lists.proofs.Growing.{map-same}
 use Rattle.stream_lists.proofs.InRange.{IsSend-in_range}
+use Rattle.stream_filters.proofs.Outputs.{alone-after}
 use Rattle.stream_filters.proofs.Weighted.{weighted-same}
 use Rattle.phase_accum.proofs.Parts.{AreSends-append}
 use Rattle.stream_filters.proofs.Made.{ranged-ok, ranged-err}
@@ -150,24 +151,37 @@ shows_behind m xs ys block same j less = by (nat_lt j (length block)) refl
         ∙ (sym (get_or-append_right (reverse block) (reverse ys) (length block) j (pos 0) long past)
         ∙ sym (apart ys))))
 
+-- an output of a filter that weighs nothing that it put
+last_output : (taps : List ℤ) (form : Form) (before block : List ℤ) (n : ℕ) → form.again ≡ 0
+    → n < length block → output_behind taps form before block n ≡ with_single form.single
+    (shifted_down (summed (back (before ++ take (n + 1) block)) taps form) form.shift)
+last_output taps form before block n none less =
+    let more = one_more before block n (pos 0) less in
+    ap (λ l. output_after taps form l) (sym more)
+    ∙ (alone-after taps form (before ++ take n block) (get_or block n (pos 0)) none
+    ∙ ap (λ l. with_single form.single (shifted_down (summed (back l) taps form) form.shift)) more)
+
 -- the output behind a state is the one behind the samples that it shows
 output_same : (taps : List ℤ) (form : Form) (state before block : List ℤ) (n : ℕ)
-    → length state + 1 ≡ reach taps form → ShowsLast state before → n < length block
+    → form.again ≡ 0 → length state + 1 ≡ reach taps form → ShowsLast state before → n < length block
     → output_behind taps form state block n ≡ output_behind taps form before block n
-output_same taps form state before block n long shows less =
+output_same taps form state before block n none long shows less =
     let some : length (take (n + 1) block) ≡ n + 1 =
     length-take-le (n + 1) block (omega (arith, less)) in
-    ap (λ z. shifted_down (z +ℤ form.plus) form.shift) (weighted-same _ _ taps
+    last_output taps form state block n none less
+    ∙ (ap (λ z. with_single form.single (shifted_down (z +ℤ form.plus) form.shift))
+    (weighted-same _ _ taps
     (λ j lt. shows_behind (length state) state before (take (n + 1) block) shows (form.delay + j)
-    (omega (arith, some, long, lt))))
+    (omega (arith, some, long, lt, none))))
+    ∙ sym (last_output taps form before block n none less))
 
 -- so are the first ones
 outputs_same : (taps : List ℤ) (form : Form) (state before block : List ℤ) (n : ℕ)
-    → length state + 1 ≡ reach taps form → ShowsLast state before → n ≤ length block
+    → form.again ≡ 0 → length state + 1 ≡ reach taps form → ShowsLast state before → n ≤ length block
     → first_outputs taps form state block n ≡ first_outputs taps form before block n
-outputs_same taps form state before block n long shows few =
+outputs_same taps form state before block n none long shows few =
     map-same (output_behind taps form state block) (output_behind taps form before block) 0 n
-    (λ k less. output_same taps form state before block k long shows (omega (arith, few, less)))
+    (λ k less. output_same taps form state before block k none long shows (omega (arith, few, less)))
 
 -- the last of these samples show all of them
 drop_shows : (samples : List ℤ) (n j : ℕ) → n + j < length samples
@@ -204,23 +218,23 @@ drop_past state block le =
 
 -- what a filter with these taps gives behind a state are the outputs behind what the state shows
 outputs_are : (taps other : List ℤ) (form moved : Form) (state before block : List ℤ) (n : ℕ)
-    → other ≡ taps → moved ≡ form → length state + 1 ≡ reach taps form → ShowsLast state before
+    → other ≡ taps → moved ≡ form → form.again ≡ 0 → length state + 1 ≡ reach taps form → ShowsLast state before
     → n ≤ length block
     → first_outputs other moved state block n ≡ first_outputs taps form before block n
-outputs_are taps other form moved state before block n same unmoved long shows few =
+outputs_are taps other form moved state before block n same unmoved none long shows few =
     ap (λ ts. first_outputs ts moved state block n) same
     ∙ (ap (λ k. first_outputs taps k state block n) unmoved
-    ∙ outputs_same taps form state before block n long shows few)
+    ∙ outputs_same taps form state before block n none long shows few)
 
 -- an output behind the state that is out of range is so behind what the state shows
 too_big_is : (taps other : List ℤ) (form moved : Form) (state before block : List ℤ) (n : ℕ)
-    → other ≡ taps → moved ≡ form → length state + 1 ≡ reach taps form → ShowsLast state before
+    → other ≡ taps → moved ≡ form → form.again ≡ 0 → length state + 1 ≡ reach taps form → ShowsLast state before
     → n < length block → ¬ (IsSend (output_behind other moved state block n))
     → ¬ (IsSend (output_behind taps form before block n))
-too_big_is taps other form moved state before block n same unmoved long shows less big is =
+too_big_is taps other form moved state before block n same unmoved none long shows less big is =
     big (subst IsSend (sym (ap (λ ts. output_behind ts moved state block n) same
     ∙ (ap (λ k. output_behind taps k state block n) unmoved
-    ∙ output_same taps form state before block n long shows less))) is)
+    ∙ output_same taps form state before block n none long shows less))) is)
 
 -- ---- a filter that has taken the samples of a state
 
@@ -240,7 +254,7 @@ module _ (taps : List ℤ) (form : Form) (state block old new : List ℤ) (count
       room = room;
       written = λ before shows. written state stands
           ∙ outputs_are taps fir.taps form fir.form state before block count same unmoved
-          of_filter.long shows few;
+          of_filter.alone of_filter.long shows few;
       fits = fits state stands;
       behind = behind;
     }
@@ -254,7 +268,7 @@ module _ (taps : List ℤ) (form : Form) (state block old new : List ℤ) (count
       filters = filters_are;
       less = less;
       too_big = λ before shows. too_big_is taps fir.taps form fir.form state before block count
-          same unmoved of_filter.long shows less (too_big state stands less);
+          same unmoved of_filter.alone of_filter.long shows less (too_big state stands less);
     }
 
     -- and where it wrote all, a state that keeps the last samples goes on behind it

@@ -2,7 +2,7 @@
 use Rattle.std.specs.Prelude.{◌≡◌, ◌<◌, ◌≤◌, ◌+◌, ℕ, ℤ, negsuc, List, ◌++◌, length, map, take, drop}
 use Rattle.std.specs.List.{range_with_len}
 use Rattle.phase_accum.specs.Sends.{AreSends, IsSend}
-use Rattle.stream_filters.specs.Filter.{AreTaps, back, output_after, reach}
+use Rattle.stream_filters.specs.Filter.{AreFewTaps, back, output_after, reach}
 use Rattle.stream_filters.specs.declared.form.Form.{Form}
 use Rattle.phase_c.specs.declared.filter.FilterRefusal.{FilterRefusal}
 use Rattle.phase_c.specs.declared.filter.FilterRefusal.TheVariants as refusal
@@ -25,9 +25,11 @@ ShowsLast state samples = (j : ℕ) → j < length state → back state j ≡ ba
 
 -- ---- a block
 
--- a filter may have these taps and this form, and the state is as long as one of its is
+-- a filter that weighs samples alone may have these taps and this form, and the state is as long as
+-- one of its is
 pub record AreOfFilter (taps : List ℤ) (form : Form) (state : List ℤ) : Type 0 where
-  pub are_taps : AreTaps taps form
+  pub are_taps : AreFewTaps taps form
+  pub alone : form.again ≡ 0
   pub long : length state + 1 ≡ reach taps form
 
 -- of a block behind any samples that the state shows the first outputs were written, so many, where
@@ -69,9 +71,9 @@ pub record FiltersNone (Why : Type 0) (old new : List ℤ) (done : ℕ) : Type 0
 abbrev pub RefusesBlock : List ℤ → Form → List ℤ → List ℤ → List ℤ → List ℤ → ℕ → FilterRefusal
     → Type 0
 RefusesBlock taps form state block old new done refusal.Taps =
-    FiltersNone (¬ (AreTaps taps form)) old new done
+    FiltersNone (¬ (AreFewTaps taps form)) old new done
 RefusesBlock taps form state block old new done refusal.Counts =
-    FiltersNone (AreTaps taps form × ¬ (length state + 1 ≡ reach taps form)) old new done
+    FiltersNone (AreFewTaps taps form × ¬ (length state + 1 ≡ reach taps form)) old new done
 RefusesBlock taps form state block old new done refusal.Room =
     FiltersNone (AreOfFilter taps form state × (length old < length block)) old new done
 RefusesBlock taps form state block old new done refusal.OutOfMemory =

@@ -5,7 +5,7 @@ ghost use Rattle.stream_filters.specs.Filter.{StandsFor, by_shift};
 ghost use Rattle.phase_c.specs.Filtered.{AreOfFilter, FiltersAll, RefusesBlock, filter_status_of, first_outputs, output_behind};
 
 use std::alloc::Global;
-use stream_filters::{Fir, FirFault, Form};
+use stream_filters::{Fir, FirFault};
 
 /// Why a block was not filtered, or not to its end.
 #[derive(Clone, Copy, Debug, PartialEq, Eq)]
@@ -88,25 +88,25 @@ pub(crate) fn keep(state: &mut [i64], block: &[i64])
 pub(crate) fn filter_behind(
     alloc: Global,
     taps: &[i64],
-    form: Form,
+    shift: u32,
     state: &[i64],
     samples: usize,
     room: usize,
 ) -> Result<Fir, FilterRefusal>
     ensures stands { IfOk result (λ fir. StandsFor fir state.now) }
     ensures taps { IfOk result (λ fir. fir.taps ≡ taps.now) }
-    ensures form { IfOk result (λ fir. fir.form ≡ form) }
-    ensures of_filter { OnOk result (AreOfFilter taps.now form state.now) }
+    ensures form { IfOk result (λ fir. fir.form ≡ by_shift shift) }
+    ensures of_filter { OnOk result (AreOfFilter taps.now (by_shift shift) state.now) }
     ensures room { OnOk result (samples ≤ room) }
     ensures refused { (block old : List ℤ) → length block ≡ samples → length old ≡ room
-        → IfErr result (λ why. RefusesBlock taps.now form state.now block old old 0 why) }
+        → IfErr result (λ why. RefusesBlock taps.now (by_shift shift) state.now block old old 0 why) }
 {
-    let made = match Fir::new(alloc, taps, form) {
+    let made = match Fir::new(alloc, taps, shift) {
         Ok(fir) => Some(fir),
         Err(FirFault::BadTaps) => return Err(FilterRefusal::Taps),
         Err(FirFault::OutOfMemory) => None,
     };
-    if state.len() + 1 != form.delay + taps.len() {
+    if state.len() + 1 != taps.len() {
         return Err(FilterRefusal::Counts);
     }
     if room < samples {
@@ -137,8 +137,7 @@ pub(crate) fn filter_block(
     ensures same { OnErr result (state.new ≡ state.old) }
 {
     *done = 0;
-    let form = Form::by_shift(shift);
-    let mut fir = match filter_behind(alloc, taps, form, state, block.len(), out.len()) {
+    let mut fir = match filter_behind(alloc, taps, shift, state, block.len(), out.len()) {
         Ok(fir) => fir,
         Err(why) => return Err(why),
     };

@@ -6,7 +6,7 @@ ghost use Rattle.phase_c.specs.Filtered.{FiltersAll, RefusesBlock, first_outputs
 
 use crate::filter::{FilterRefusal, filter_behind, keep};
 use std::alloc::Global;
-use stream_filters::{Fir, Form, TAPS_MAX};
+use stream_filters::{FEW_TAPS_MAX, Fir};
 
 /// Writes what a filter answers at each sample of a block over the sample, up to the first value
 /// that is out of range, and returns how many it wrote.
@@ -46,13 +46,12 @@ pub(crate) fn filter_in_place(
     ensures same { OnErr result (state.new ≡ state.old) }
 {
     *done = 0;
-    let form = Form::by_shift(shift);
-    let mut fir = match filter_behind(alloc, taps, form, state, block.len(), block.len()) {
+    let mut fir = match filter_behind(alloc, taps, shift, state, block.len(), block.len()) {
         Ok(fir) => fir,
         Err(why) => return Err(why),
     };
     // The last samples are kept before values take their places.
-    let mut room = [0; TAPS_MAX];
+    let mut room = [0; FEW_TAPS_MAX];
     let last = &mut room[..state.len()];
     last.copy_from_slice(state);
     keep(last, block);

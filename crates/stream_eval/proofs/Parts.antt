@@ -3,15 +3,15 @@ use Rattle.std.proofs.Common.{◌≡◌, ◌≤◌, ◌<◌, ◌⊎◌, inl, inr
 use Rattle.std.specs.Prelude.{Option, IfSome}
 use Rattle.std.specs.List.{position_from}
 use Rattle.std.proofs.lemmas.Bool.{cases_lt}
-use Rattle.std.proofs.lemmas.List.{drop-drop, take_all, get_or-take, get_or-drop, length-take-le, length-drop, same_lists}
+use Rattle.std.proofs.lemmas.List.{drop-drop, take_all, get_or-take, get_or-drop, length-take-le, length-drop, same_lists, take_more}
 use Rattle.std.proofs.lemmas.Simd.{length-chunk, get_or-chunk}
 use Rattle.std.proofs.Math.Seq.{take-add}
 use Rattle.phase_accum.specs.Sends.{AreSends}
-use Rattle.stream_filters.specs.Filter.{back, output_after, outputs, reach, shifted_down}
+use Rattle.stream_filters.specs.Filter.{back, output_after, outputs, reach, shifted_down, summed, with_single}
 use Rattle.stream_filters.specs.declared.form.Form.{Form}
 use Rattle.stream_lists.specs.Ranges.{is_out_of_range}
 use Rattle.phase_accum.proofs.Parts.{AreSends-append, AreSends-drop}
-use Rattle.stream_filters.proofs.Outputs.{back_is, back-before, outputs-entry, outputs-length}
+use Rattle.stream_filters.proofs.Outputs.{alone-after, back_is, back-before, outputs-entry, outputs-length}
 use Rattle.stream_filters.proofs.Weighted.{weighted-same}
 use Rattle.stream_lists.proofs.Fitting.{none_out, all_sends}
 use Rattle.stream_eval.specs.Parts.{ArePart}
@@ -97,26 +97,43 @@ same-back samples reached lead from to k j front order within enough lt near =
         first (inl is) = is
         first (inr few) = absurd (omega arith)
 
-same-output : (taps samples : List ℤ) (form : Form) (lead from to k : ℕ) → lead ≤ from → from ≤ to
+-- the output at a sample, of a filter that weighs nothing that it put
+alone-output : (taps samples : List ℤ) (form : Form) (n : ℕ) → form.again ≡ 0 → n < length samples
+    → output_after taps form (take (n + 1) samples) ≡ with_single form.single
+    (shifted_down (summed (back (take (n + 1) samples)) taps form) form.shift)
+alone-output taps samples form n none lt =
+    let more = take_more samples n (pos 0) lt in
+    ap (λ l. output_after taps form l) more
+    ∙ (alone-after taps form (take n samples) (get_or samples n (pos 0)) none
+    ∙ ap (λ l. with_single form.single (shifted_down (summed (back l) taps form) form.shift))
+    (sym more))
+
+same-output : (taps samples : List ℤ) (form : Form) (lead from to k : ℕ) → form.again ≡ 0
+    → lead ≤ from → from ≤ to
     → to ≤ length samples → (from ≤ lead) ⊎ (reach taps form ≤ lead + 1) → k < to - from
     → output_after taps form (take (lead + k + 1) (with_lead samples lead from to))
     ≡ output_after taps form (take (from + k + 1) samples)
-same-output taps samples form lead from to k front order within enough lt =
-    ap (λ z. shifted_down (z +ℤ form.plus) form.shift) (weighted-same _ _ taps
+same-output taps samples form lead from to k none front order within enough lt =
+    let size = length-with_lead samples lead from to front order within in
+    alone-output taps (with_lead samples lead from to) form (lead + k) none (omega (arith, size))
+    ∙ (ap (λ z. with_single form.single (shifted_down (z +ℤ form.plus) form.shift))
+    (weighted-same _ _ taps
     (λ j near. same-back samples (reach taps form) lead from to k (form.delay + j) front order within
-    enough lt (omega arith)))
+    enough lt (omega (arith, none))))
+    ∙ sym (alone-output taps samples form (from + k) none (omega arith)))
 
 -- the outputs behind those in front
-outputs-behind : (taps samples : List ℤ) (form : Form) (lead from to : ℕ) → lead ≤ from → from ≤ to
+outputs-behind : (taps samples : List ℤ) (form : Form) (lead from to : ℕ) → form.again ≡ 0
+    → lead ≤ from → from ≤ to
     → to ≤ length samples → (from ≤ lead) ⊎ (reach taps form ≤ lead + 1)
     → drop lead (outputs taps form (with_lead samples lead from to))
     ≡ take (to - from) (drop from (outputs taps form samples))
-outputs-behind taps samples form lead from to front order within enough =
+outputs-behind taps samples form lead from to none front order within enough =
     same_lists _ _ (omega (arith, few, many)) (λ k d lt.
     let below : k < to - from = omega (arith, few) in
     get_or-drop lead (outputs taps form shown) k d
     ∙ (outputs-entry taps form shown (lead + k) d (omega (arith, size))
-    ∙ (same-output taps samples form lead from to k front order within enough below
+    ∙ (same-output taps samples form lead from to k none front order within enough below
     ∙ (sym (outputs-entry taps form samples (from + k) d (omega arith))
     ∙ sym (get_or-chunk from (to - from) (outputs taps form samples) k d below)))))
   where
@@ -134,14 +151,14 @@ outputs-behind taps samples form lead from to front order within enough =
         (omega (arith, outputs-length taps form samples))
 
 -- the part that a filter makes
-pub filter-part : (taps samples made : List ℤ) (form : Form) (lead from to : ℕ) → lead ≤ from
-    → from ≤ to → to ≤ length samples → (from ≤ lead) ⊎ (reach taps form ≤ lead + 1)
+pub filter-part : (taps samples made : List ℤ) (form : Form) (lead from to : ℕ) → form.again ≡ 0
+    → lead ≤ from → from ≤ to → to ≤ length samples → (from ≤ lead) ⊎ (reach taps form ≤ lead + 1)
     → made ≡ outputs taps form (with_lead samples lead from to)
     → position_from is_out_of_range 0 (outputs taps form (with_lead samples lead from to)) ≡ None
     → ArePart (outputs taps form samples) from to (drop lead made)
-filter-part taps samples made form lead from to front order within enough is fits = record {
+filter-part taps samples made form lead from to none front order within enough is fits = record {
   values_are = ap (drop lead) is
-      ∙ outputs-behind taps samples form lead from to front order within enough;
+      ∙ outputs-behind taps samples form lead from to none front order within enough;
   sends = AreSends-drop lead made (subst AreSends (sym is) (all_sends 0 _ fits));
 }
 

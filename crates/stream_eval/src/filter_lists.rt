@@ -46,7 +46,8 @@ impl FilterLists for InTurn {
 }
 
 /// The outputs of a filter at the samples from one place up to another, or nothing where one is out
-/// of range, or memory was refused.
+/// of range, or memory was refused, and of a filter that weighs what it put: each of its outputs
+/// hangs on all before it.
 pub fn filter_part(
     alloc: Global,
     taps: &[i64],
@@ -61,6 +62,9 @@ pub fn filter_part(
     ensures { IfSome result (λ values.
         ArePart (outputs taps.now form samples.now) from to values.items) }
 {
+    if form.again > 0 {
+        return None;
+    }
     let lead = from.min(form.delay + taps.len() - 1);
     match filter_list(alloc, taps, form, &samples[from - lead..to]) {
         Ok(list) => behind(alloc, &list, lead),

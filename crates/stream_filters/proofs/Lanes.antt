@@ -7,7 +7,7 @@ use Rattle.std.proofs.Math.IntN.{*ℤ_comm}
 use Rattle.std.proofs.lemmas.Int.{to_z-of_z, fits_signed_from_abs, unsigned_abs-mul}
 use Rattle.std.proofs.lemmas.Nat.{mul-le}
 use Rattle.std.proofs.lemmas.Simd.{Each1-weaker, Each2-splat}
-use Rattle.stream_filters.specs.Filter.{shifted_down}
+use Rattle.stream_filters.specs.Sums.{shifted_down}
 use Rattle.stream_filters.specs.Lanes.{IsShort, AddsUp}
 use Rattle.stream_filters.proofs.Weighted.{abs_add, shifted_down-le}
 

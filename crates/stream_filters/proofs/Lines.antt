@@ -1,16 +1,17 @@
 -- The line in which a filter keeps its samples.
 use Rattle.std.proofs.Common.{◌≡◌, ℕ, zero, suc, ◌+◌, ◌-◌, ◌*◌, ◌^◌, ◌<◌, ◌≤◌, List, [], ◌∷◌, ◌++◌, length, take, drop, reverse, get_or, ℤ, pos, ◌+ℤ◌, refl, sym, ap, subst, ◌∙◌, append-nil, append_assoc, arith, ◌⊎◌, inl, inr}
-use Rattle.std.specs.Prelude.{unsigned_abs}
+use Rattle.std.specs.Prelude.{replicate, unsigned_abs}
 use Rattle.std.specs.List.{All, copy_within}
 use Rattle.std.proofs.lemmas.Bool.{cases_lt}
-use Rattle.std.proofs.lemmas.List.{get_or-take, get_or_append_left, get_or-append-add, get_or-reverse, length_push, length-drop, length-reverse, reverse-append, take_all, take-append-drop, take-append-le}
+use Rattle.std.proofs.lemmas.List.{get_or-take, get_or_append_left, get_or-append-add, get_or-replicate, get_or-reverse, get_or_past, length-replicate, length-take, length_push, length-drop, length-reverse, reverse-append, take_all, take-append-drop, take-append-le}
 use Rattle.std.proofs.lemmas.List.Elements.{All-weaker}
-use Rattle.stream_filters.specs.Filter.{AreTaps, FirState, StandsFor, after_sample, at_place, back, output_after, reach, shifted_down, weight}
+use Rattle.stream_filters.specs.Sums.{at_place, back, shifted_down, weight, summed}
+use Rattle.stream_filters.specs.Weighing.{AreAhead, WeigherState, Shows, after_weighed, weighed_after, span}
 use Rattle.stream_filters.specs.declared.form.Form.{Form}
-use Rattle.stream_filters.specs.FilterFields.{AreSmall, IsNarrowBack, answer_at, window_of}
+use Rattle.stream_filters.specs.WeigherFields.{AreSmall, IsNarrowBack, answer_at, window_of}
 use Rattle.stream_filters.specs.Range.{ranged}
 use Rattle.stream_filters.proofs.Weighted.{weighted-same}
-use Rattle.stream_filters.proofs.Windows.{back-zero, back-suc}
+use Rattle.stream_filters.proofs.Outputs.{back-zero, back-suc}
 
 -- ---- room is made
 
@@ -57,25 +58,42 @@ window_of-push (suc n) line x =
 -- ---- filters by their lines
 
 -- the filter with these taps and this form that has its samples in the line
-abbrev pub fir_of : List ℤ → Form → List ℤ → FirState
+abbrev pub fir_of : List ℤ → Form → List ℤ → WeigherState
 fir_of taps form line =
-    record { taps = taps; form = form; window = window_of (reach taps form) line }
+    record { taps = taps; form = form; window = window_of (span taps form) line }
 
 -- room was made, and one sample came
 pub fir_of-push : (taps : List ℤ) (form : Form) (old line more : List ℤ) (x : ℤ)
-    → window_of (reach taps form) line ≡ window_of (reach taps form) old → more ≡ line ++ x ∷ []
-    → fir_of taps form more ≡ after_sample (fir_of taps form old) x
+    → window_of (span taps form) line ≡ window_of (span taps form) old → more ≡ line ++ x ∷ []
+    → fir_of taps form more ≡ after_weighed (fir_of taps form old) x
 fir_of-push taps form old line more x same pushed =
     ap (λ window. record { taps = taps; form = form; window = window })
-    (ap (window_of (reach taps form)) pushed
-    ∙ (window_of-push (reach taps form) line x
-    ∙ ap (λ window. take (reach taps form) (x ∷ window)) same))
+    (ap (window_of (span taps form)) pushed
+    ∙ (window_of-push (span taps form) line x
+    ∙ ap (λ window. take (span taps form) (x ∷ window)) same))
 
 -- ---- what a window shows
 
 pub window_of-shows : (n : ℕ) (line : List ℤ) (j : ℕ) → j < n
     → at_place (window_of n line) j ≡ back line j
 window_of-shows n line j lt = get_or-take n (reverse line) j (pos 0) lt
+
+-- a window over zeros
+pub window_of-zeros : (n : ℕ) (line : List ℤ) → line ≡ replicate n (pos 0) → (j : ℕ)
+    → at_place (window_of n line) j ≡ pos 0
+window_of-zeros n line zeros j = by (cases_lt j n)
+  where
+    long : length line ≡ n
+    long = ap length zeros ∙ length-replicate n (pos 0)
+
+    by : (j < n) ⊎ (n ≤ j) → at_place (window_of n line) j ≡ pos 0
+    by (inl below) =
+        window_of-shows n line j below
+        ∙ (get_or-reverse line j (pos 0) (omega (arith, long))
+        ∙ (ap (λ l. get_or l (length line - 1 - j) (pos 0)) zeros
+        ∙ get_or-replicate n (length line - 1 - j) (pos 0) (pos 0) (omega (arith, long))))
+    by (inr past) =
+        get_or_past (window_of n line) j (pos 0) (omega (arith, length-take n (reverse line)))
 
 -- equal windows show the same samples
 pub window_of-same : (n : ℕ) (line other : List ℤ) → window_of n line ≡ window_of n other
@@ -84,13 +102,18 @@ window_of-same n line other e j lt =
     sym (window_of-shows n line j lt)
     ∙ (ap (λ window. at_place window j) e ∙ window_of-shows n other j lt)
 
--- the answer is the output at the last sample of the line
+-- the sum of a window is that of the last samples of the line
+pub summed-line : (taps : List ℤ) (form : Form) (line : List ℤ)
+    → summed (at_place (window_of (span taps form) line)) taps form ≡ summed (back line) taps form
+summed-line taps form line =
+    ap (λ z. z +ℤ form.plus) (weighted-same _ _ taps (λ j lt.
+    window_of-shows (span taps form) line (form.delay + j) (omega arith)))
+
+-- so the answer is that at the last sample of the line
 pub answer_at-line : (taps : List ℤ) (form : Form) (line : List ℤ)
-    → answer_at taps form (window_of (reach taps form) line) ≡ ranged (output_after taps form line)
+    → answer_at taps form (window_of (span taps form) line) ≡ ranged (weighed_after taps form line)
 answer_at-line taps form line =
-    ap (λ z. ranged (shifted_down (z +ℤ form.plus) form.shift))
-    (weighted-same _ _ taps (λ j lt.
-    window_of-shows (reach taps form) line (form.delay + j) (omega arith)))
+    ap (λ z. ranged (shifted_down z form.shift)) (summed-line taps form line)
 
 -- ---- lines whose last samples are the same
 
@@ -117,16 +140,16 @@ Agree-append n line other (x ∷ xs) agree =
 
 -- a line agrees with the samples that its filter stands for
 pub Agree-stands : (taps : List ℤ) (form : Form) (old line taken : List ℤ)
-    → window_of (reach taps form) line ≡ window_of (reach taps form) old
-    → StandsFor (fir_of taps form old) taken → Agree (reach taps form) line taken
+    → window_of (span taps form) line ≡ window_of (span taps form) old
+    → Shows (fir_of taps form old) taken → Agree (span taps form) line taken
 Agree-stands taps form old line taken same has j lt =
-    window_of-same (reach taps form) line old same j lt
-    ∙ (sym (window_of-shows (reach taps form) old j lt) ∙ has.shows j lt)
+    window_of-same (span taps form) line old same j lt
+    ∙ (sym (window_of-shows (span taps form) old j lt) ∙ has.shows j lt)
 
-pub StandsFor-agree : (taps : List ℤ) (form : Form) (line taken : List ℤ)
-    → Agree (reach taps form) line taken → StandsFor (fir_of taps form line) taken
-StandsFor-agree taps form line taken agree = record {
-  shows = λ j lt. window_of-shows (reach taps form) line j lt ∙ agree j lt;
+pub Shows-agree : (taps : List ℤ) (form : Form) (line taken : List ℤ)
+    → Agree (span taps form) line taken → Shows (fir_of taps form line) taken
+Shows-agree taps form line taken agree = record {
+  shows = λ j lt. window_of-shows (span taps form) line j lt ∙ agree j lt;
 }
 
 -- ---- samples within a limit
@@ -158,7 +181,7 @@ AreRecent-same limit n left line other same recent j lt =
     rw (window_of-same n line other same j (omega arith)) (recent j lt)
 
 -- a window of samples within a limit that the taps allow
-pub IsNarrowBack-recent : (taps line : List ℤ) (form : Form) (limit : ℕ) → AreTaps taps form
+pub IsNarrowBack-recent : (taps line : List ℤ) (form : Form) (limit : ℕ) → AreAhead taps form
     → limit < 2 ^ 31 → weight taps * limit + unsigned_abs form.plus < 2 ^ 63
     → ((j : ℕ) → j < length taps → unsigned_abs (back line j) ≤ limit)
     → IsNarrowBack taps form.plus line

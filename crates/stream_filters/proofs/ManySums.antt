@@ -9,9 +9,9 @@ use Rattle.std.proofs.lemmas.List.FromFn.{length-map-range_with_len, get_or-map-
 use Rattle.std.proofs.lemmas.List.Sums.{sum_by-take-le}
 use Rattle.std.proofs.lemmas.Nat.{mul-le}
 use Rattle.std.proofs.lemmas.Simd.{length-chunk, get_or-chunk, map-map, zip2_of_maps}
-use Rattle.stream_filters.specs.Filter.{shifted_down, weighted, weight}
+use Rattle.stream_filters.specs.Sums.{shifted_down, weighted, weight}
 use Rattle.stream_filters.specs.declared.form.Form.{Form}
-use Rattle.stream_filters.specs.FilterFields.{IsNarrow}
+use Rattle.stream_filters.specs.WeigherFields.{IsNarrow}
 use Rattle.stream_filters.specs.Lanes.{before, output_shown, IsShort, AddsUp}
 use Rattle.stream_filters.proofs.Lanes.{product-short, short-64, lanes-64, products-handed}
 use Rattle.stream_filters.proofs.Outputs.{map-range_with_len_same}

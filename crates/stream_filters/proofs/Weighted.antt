@@ -9,9 +9,9 @@ use Rattle.std.proofs.lemmas.List.Sums.{sum_by-cons, sum_by_more, sum_by-take-le
 use Rattle.std.proofs.lemmas.Nat.{mul-le, shr_le}
 use Rattle.std.proofs.lemmas.Bool.{cases_lt}
 use Rattle.std.proofs.lemmas.Bool.Decides.{nat_tests}
-use Rattle.stream_filters.specs.Filter.{weighted, at_place, back, weight, shifted_down}
+use Rattle.stream_filters.specs.Sums.{weighted, at_place, back, weight, shifted_down}
 use Rattle.stream_filters.specs.Range.{ranged}
-use Rattle.stream_filters.specs.FilterFields.{IsNarrowBack}
+use Rattle.stream_filters.specs.WeigherFields.{IsNarrowBack}
 
 -- only what stands below the number of taps counts
 pub weighted-same : (f g : ℕ → ℤ) (taps : List ℤ) → ((j : ℕ) → j < length taps → f j ≡ g j)

@@ -7,19 +7,22 @@ use Rattle.std.proofs.lemmas.List.{get_or_default, get_or-take, length-take-le}
 use Rattle.std.proofs.lemmas.List.Elements.{All-weaker}
 use Rattle.std.proofs.lemmas.List.FromFn.{get_or-map-range_with_len}
 use Rattle.std.proofs.lemmas.Simd.{length-chunk, get_or-chunk}
-use Rattle.stream_filters.specs.Filter.{AreTaps, back, reach, weighted, outputs, shifted_down}
+use Rattle.stream_filters.specs.Sums.{back, weighted, shifted_down}
+use Rattle.stream_filters.specs.Weighing.{AreAhead, span, weighed}
 use Rattle.stream_filters.specs.declared.form.Form.{Form}
-use Rattle.stream_filters.specs.FilterFields.{AreSmall, AreSmallAt, IsNarrow, MadeSoFar}
+use Rattle.stream_filters.specs.WeigherFields.{AreSmall, AreSmallAt, IsNarrow}
+use Rattle.stream_filters.specs.FilterFields.{MadeSoFar}
 use Rattle.stream_filters.specs.Lanes.{before, output_shown}
 use Rattle.stream_filters.specs.Range.{ranged}
 use Rattle.stream_filters.proofs.Made.{MadeSoFar-append}
 use Rattle.stream_filters.proofs.ManySums.{before-added-small}
-use Rattle.stream_filters.proofs.Outputs.{outputs-entry, outputs-length, back_is}
+use Rattle.stream_filters.proofs.Outputs.{back_is}
+use Rattle.stream_filters.proofs.PlainLists.{weighed-entry, weighed-length}
 use Rattle.stream_filters.proofs.Weighted.{weighted-same, ranged-shifted_down}
 
 -- ---- one block
 
--- what the windows of 16 outputs from number `at` on show
+-- what the windows of 16 weighed from number `at` on show
 abbrev pub shown : List ℤ → List ℤ → ℕ → List ℤ
 shown taps samples at = take (at + 16 - (at + 1 - length taps)) (drop
     (at + 1 - length taps) samples)
@@ -41,7 +44,7 @@ shown-entry taps samples at k d long within lt =
     get_or-chunk (at + 1 - length taps) (at + 16 - (at + 1 - length taps)) samples k d (omega arith)
     ∙ get_or_default samples (at + 1 - length taps + k) d (pos 0) (omega arith)
 
-pub IsNarrow-shown : (taps samples : List ℤ) (form : Form) (at : ℕ) → AreTaps taps form
+pub IsNarrow-shown : (taps samples : List ℤ) (form : Form) (at : ℕ) → AreAhead taps form
     → AreSmallAt taps form.plus samples at
     → length taps ≤ at + 1 → at + 16 ≤ length samples
     → IsNarrow taps form.plus (shown taps samples at)
@@ -78,11 +81,11 @@ back-entry samples n delay j within le =
     ∙ (get_or-take (n + 1) samples (n - (delay + j)) (pos 0) (omega arith)
     ∙ ap (λ i. get_or samples i (pos 0)) place)
 
--- one of the outputs of a block
-pub block-output : (taps samples : List ℤ) (form : Form) (at k : ℕ) → AreTaps taps form
-    → AreSmallAt taps form.plus samples (at - form.delay) → reach taps form ≤ at + 1
+-- one of the weighed of a block
+pub block-output : (taps samples : List ℤ) (form : Form) (at k : ℕ) → AreAhead taps form
+    → AreSmallAt taps form.plus samples (at - form.delay) → span taps form ≤ at + 1
     → at + 16 ≤ length samples → k < 16
-    → ranged (get_or (outputs taps form samples) (at + k) (pos 0))
+    → ranged (get_or (weighed taps form samples) (at + k) (pos 0))
     ≡ Ok (output_shown taps form (shown taps samples (at - form.delay)) k)
 block-output taps samples form at k are small long within lt =
     let first = at - form.delay in
@@ -98,32 +101,32 @@ block-output taps samples form at k are small long within lt =
     shown-before taps samples first k j long_first within_first lt below
     ∙ (ap (λ i. get_or samples i (pos 0)) place
     ∙ sym (back-entry samples (at + k) form.delay j (omega arith) (omega arith)))) in
-    ap ranged (outputs-entry taps form samples (at + k) (pos 0) (omega arith))
+    ap ranged (weighed-entry taps form samples (at + k) (pos 0) (omega arith))
     ∙ (ap (λ z. ranged (shifted_down (z +ℤ form.plus) form.shift)) (sym sum_is)
     ∙ ranged-shifted_down (sum +ℤ form.plus) form.shift
     (before-added-small taps form.plus (shown taps samples first) narrow (length taps - 1 + k)))
 
--- the outputs of n samples
+-- the weighed of n samples
 pub outputs_shown-entry : (taps samples : List ℤ) (form : Form) (k n : ℕ) → k < n
     → get_or (map (output_shown taps form samples) (range_with_len 0 n)) k (pos 0)
     ≡ output_shown taps form samples k
 outputs_shown-entry taps samples form k n lt =
     get_or-map-range_with_len (output_shown taps form samples) 0 n k k (pos 0) lt (zero-add k)
 
--- a block of outputs is made
-pub block-made : (taps samples list block : List ℤ) (form : Form) (at : ℕ) → AreTaps taps form
-    → AreSmallAt taps form.plus samples (at - form.delay) → reach taps form ≤ at + 1
+-- a block of weighed is made
+pub block-made : (taps samples list block : List ℤ) (form : Form) (at : ℕ) → AreAhead taps form
+    → AreSmallAt taps form.plus samples (at - form.delay) → span taps form ≤ at + 1
     → at + 16 ≤ length samples
     → block ≡ map (output_shown taps form (shown taps samples (at - form.delay)))
     (range_with_len 0 16)
-    → MadeSoFar (outputs taps form samples) list at
-    → MadeSoFar (outputs taps form samples) (list ++ block) (at + 16)
+    → MadeSoFar (weighed taps form samples) list at
+    → MadeSoFar (weighed taps form samples) (list ++ block) (at + 16)
 block-made taps samples list block form at are small long within is made =
     let first = at - form.delay in
     let len : length block ≡ 16 = ap length is in
-    subst (λ n. MadeSoFar (outputs taps form samples) (list ++ block) (at + n)) len
-    (MadeSoFar-append (outputs taps form samples) list block at made
-    (omega (arith, outputs-length taps form samples)) (λ k lt.
+    subst (λ n. MadeSoFar (weighed taps form samples) (list ++ block) (at + n)) len
+    (MadeSoFar-append (weighed taps form samples) list block at made
+    (omega (arith, weighed-length taps form samples)) (λ k lt.
     let below : k < 16 = omega arith in
     block-output taps samples form at k are small long within below
     ∙ ap Ok (sym (ap (λ xs. get_or xs k (pos 0)) is
@@ -137,10 +140,10 @@ OnOk-extended (Err e) P old block new is made = tt
 
 -- ---- the whole list
 
--- the outputs at the samples before number `at`, and from where on these are within the limit
+-- the weighed at the samples before number `at`, and from where on these are within the limit
 pub record AreFiltered (taps : List ℤ) (form : Form) (samples list : List ℤ)
     (at small_from limit : ℕ) : Type 0 where
-  pub made : MadeSoFar (outputs taps form samples) list at
+  pub made : MadeSoFar (weighed taps form samples) list at
   pub within : at ≤ length samples
   pub from : small_from ≤ at
   pub small : AreSmall limit samples small_from at

@@ -1,54 +1,26 @@
--- What the fields of a filter stand for.
-use Rattle.std.specs.Prelude.{◌≡◌, ◌+◌, ◌-◌, ◌*◌, ◌^◌, ◌<◌, ◌≤◌, ◌++◌, unsigned_abs, ℕ, ℤ, pos, List, length, take, drop, reverse, get_or, vec_capacity, Result}
-use Rattle.stream_filters.specs.Filter.{FirState, AreTaps, StandsFor, shifted_down, summed, reach, weight, at_place, back, outputs_of_block}
-use Rattle.std.specs.List.{All, position_from}
-use Rattle.stream_filters.specs.Range.{ranged, is_out_of_range, before_out_of_range}
-use Rattle.stream_filters.specs.declared.fault.TooBigValue.{TooBigValue}
-use Rattle.stream_filters.specs.declared.form.Form.{Form}
+-- What the fields of a filter stand for, and what its steps leave.
+use Rattle.std.specs.Prelude.{◌≡◌, ◌+◌, ◌-◌, ◌≤◌, ◌++◌, ℕ, ℤ, List, length, take, drop, vec_capacity}
+use Rattle.std.specs.List.{position_from}
+use Rattle.stream_filters.specs.Filter.{FirState, AreTaps, StandsFor, outputs_of_block}
+use Rattle.stream_filters.specs.Range.{is_out_of_range, before_out_of_range}
+use Rattle.stream_filters.specs.WeigherFields.{window_of}
 use Rattle.stream_filters.specs.declared.fir.Fir.TheInside.{Inside}
-
--- the last n samples of a line, the newest in front
-abbrev pub window_of : ℕ → List ℤ → List ℤ
-window_of n line = take n (reverse line)
 
 -- the filter that the fields of the code hold
 abbrev pub fir_view : Inside → FirState
 fir_view f = record {
-  taps = f.taps.items;
-  form = f.form;
-  window = window_of (reach f.taps.items f.form) f.line.items;
+  taps = f.weigher.taps ++ f.again.items;
+  form = f.weigher.form;
+  window = f.weigher.window;
+  puts = window_of f.weigher.form.again f.puts.items;
 }
-
--- the answer that a window gives
-abbrev pub answer_at : List ℤ → Form → List ℤ → Result ℤ TooBigValue
-answer_at taps form window = ranged (shifted_down (summed (at_place window) taps form) form.shift)
-
--- taps and samples have 32 bits, and no sum over samples of at most this limit, to which so much is
--- added, leaves 64 bits
-pub record IsNarrow (taps : List ℤ) (plus : ℤ) (samples : List ℤ) : Type 0 where
-  pub limit : ℕ
-  pub short : limit < 2 ^ 31
-  pub short_taps : All (λ tap. unsigned_abs tap < 2 ^ 31) taps
-  pub small : All (λ x. unsigned_abs x ≤ limit) samples
-  pub fits : weight taps * limit + unsigned_abs plus < 2 ^ 63
-
--- the same of the last of these samples, as many as there are taps
-pub record IsNarrowBack (taps : List ℤ) (plus : ℤ) (samples : List ℤ) : Type 0 where
-  pub limit : ℕ
-  pub short : limit < 2 ^ 31
-  pub short_taps : All (λ tap. unsigned_abs tap < 2 ^ 31) taps
-  pub small : (j : ℕ) → j < length taps → unsigned_abs (back samples j) ≤ limit
-  pub fits : weight taps * limit + unsigned_abs plus < 2 ^ 63
 
 -- what holds of the fields of every filter
 pub record IsFir (f : Inside) : Type 0 where
-  pub are_taps : AreTaps f.taps.items f.form
-  pub held : reach f.taps.items f.form ≤ length f.line.items
-  pub room : reach f.taps.items f.form + 1024 ≤ vec_capacity f.line
-  pub short : f.limit < 2 ^ 31
-  pub light : weight f.taps.items * f.limit + unsigned_abs f.form.plus < 2 ^ 63
-  pub recent : (j : ℕ) → j + f.wide_steps_left < reach f.taps.items f.form
-      → unsigned_abs (back f.line.items j) ≤ f.limit
+  pub are_taps : AreTaps (f.weigher.taps ++ f.again.items) f.weigher.form
+  pub again : length f.again.items ≡ f.weigher.form.again
+  pub held : f.weigher.form.again ≤ length f.puts.items
+  pub room : f.weigher.form.again + 1024 ≤ vec_capacity f.puts
 
 -- the filter has taken these samples up to the first whose output is out of range, and put the
 -- outputs before that one behind the others
@@ -57,20 +29,9 @@ pub record HasStepped (old new : FirState) (samples before after : List ℤ) : T
       → after ≡ before ++ before_out_of_range (outputs_of_block old.taps old.form taken samples)
   pub stands : (taken : List ℤ) → StandsFor old taken
       → StandsFor new (taken ++ take (length after - length before + 1) samples)
+  pub few : length after ≤ length before + length samples
   pub taps : new.taps ≡ old.taps
   pub form : new.form ≡ old.form
-
--- the samples from number `from` to the one before number `to` are within the limit
-abbrev pub AreSmall : ℕ → List ℤ → ℕ → ℕ → Type 0
-AreSmall limit samples from to =
-    (m : ℕ) → from ≤ m → m < to → unsigned_abs (get_or samples m (pos 0)) ≤ limit
-
--- the samples in the windows of 16 outputs from number `at` on are small enough for these taps
-pub record AreSmallAt (taps : List ℤ) (plus : ℤ) (samples : List ℤ) (at : ℕ) : Type 0 where
-  pub limit : ℕ
-  pub short : limit < 2 ^ 31
-  pub fits : weight taps * limit + unsigned_abs plus < 2 ^ 63
-  pub small : AreSmall limit samples (at + 1 - length taps) (at + 16)
 
 -- the list has the first n values of the whole, and they are in range
 pub record MadeSoFar (whole list : List ℤ) (n : ℕ) : Type 0 where

@@ -1,6 +1,6 @@
 -- What many windows at once need of their samples and sums.
 use Rattle.std.specs.Prelude.{ℕ, ◌+◌, ◌-◌, ◌^◌, ◌<◌, List, length, ℤ, pos, ◌+ℤ◌, unsigned_abs, get_or}
-use Rattle.stream_filters.specs.Filter.{shifted_down, weighted}
+use Rattle.stream_filters.specs.Sums.{shifted_down, weighted}
 use Rattle.stream_filters.specs.declared.form.Form.{Form}
 
 -- the sample j places before sample number n of these

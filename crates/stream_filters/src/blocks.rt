@@ -2,8 +2,8 @@
 ghost use Rattle.std.specs.Prelude.{◌≡◌, ◌+◌, ◌^◌, ◌<◌, ◌≤◌, length, map, take, replicate, ◌+ℤ◌, ◌*ℤ◌, unsigned_abs};
 ghost use Rattle.std.specs.List.{range_with_len};
 ghost use Rattle.std.specs.Simd.Lanes.{zip2, Each1, Each2};
-ghost use Rattle.stream_filters.specs.Filter.{shifted_down};
-ghost use Rattle.stream_filters.specs.FilterFields.{IsNarrow};
+ghost use Rattle.stream_filters.specs.Sums.{shifted_down};
+ghost use Rattle.stream_filters.specs.WeigherFields.{IsNarrow};
 ghost use Rattle.stream_filters.specs.Lanes.{output_shown, IsShort, AddsUp};
 
 use crate::fir::SHIFT_MAX;
@@ -60,11 +60,11 @@ fn lanes_shifted(sums: i64x16, shift: u32) -> i64x16
 
 /// The outputs at 16 samples one after the other, from the samples in their windows, where 64 bits
 /// hold the sums.
-pub(crate) fn block_outputs(taps: &[i64], form: Form, samples: &[i64]) -> [i64; 16]
-    requires shift { form.shift ≤ SHIFT_MAX }
+pub(crate) fn block_outputs(taps: &[i64], form: &Form, samples: &[i64]) -> [i64; 16]
+    requires shift { form.now.shift ≤ SHIFT_MAX }
     requires enough { length samples.now ≡ length taps.now + 15 }
-    requires narrow { IsNarrow taps.now form.plus samples.now }
-    ensures { result ≡ map (output_shown taps.now form samples.now) (range_with_len 0 16) }
+    requires narrow { IsNarrow taps.now form.now.plus samples.now }
+    ensures { result ≡ map (output_shown taps.now form.now samples.now) (range_with_len 0 16) }
 {
     let mut sums = i64x16::splat(0);
     for j in 0..taps.len() {

@@ -1,19 +1,23 @@
-//! The filter with a finite window.
+//! The filter.
 ghost use Rattle.std.specs.Prelude.{◌≡◌, ◌↔◌, ◌+◌, ◌-◌, ◌^◌, ◌<◌, ◌≤◌, List, [], ◌∷◌, ◌++◌, ℤ, length, take, reverse, vec_capacity, IsTrue, IsOk, IfOk, false};
-ghost use Rattle.stream_filters.specs.Filter.{AreTaps, StandsFor, after_sample, output_after, outputs_of_block, weight};
-ghost use Rattle.stream_filters.specs.FilterFields.{window_of};
+ghost use Rattle.stream_filters.specs.Filter.{AreFewTaps, AreTaps, StandsFor, after_sample, by_shift, output_after, output_of, outputs_of_block, put_of, with_put};
 ghost use Rattle.stream_filters.specs.Range.{before_out_of_range, ranged};
 
-use crate::blocks::{BLOCK, block_outputs};
+use crate::blocks::BLOCK;
 use crate::fault::{FirFault, TooBigValue};
-use crate::form::Form;
-use crate::sums::{earlier, narrow_limit, narrow_output, weight_of};
-use crate::whole_list::{are_within, last_output};
+use crate::form::{Form, is_plain};
+use crate::range::in_range;
+use crate::recursive::output_for;
+use crate::weigher::{Weigher, make_room, zeros};
 use std::alloc::Global;
 use std::marker::Model;
 
-/// The most taps of a filter.
-pub const TAPS_MAX: usize = 64;
+/// The most taps for samples.
+pub const TAPS_MAX: usize = 1024;
+/// The most taps of a filter that is made by its taps and its shift alone.
+pub const FEW_TAPS_MAX: usize = 64;
+/// The most taps for what a filter put.
+pub const AGAIN_MAX: usize = 64;
 /// The greatest magnitude of a tap.
 pub const TAP_MAX: u64 = 2_147_483_647;
 /// The greatest shift, in bits.
@@ -23,46 +27,18 @@ pub const PLUS_MAX: u64 = 4_611_686_018_427_387_904;
 /// The greatest delay, in samples.
 pub const DELAY_MAX: usize = 65_536;
 
-/// How many samples there is room for behind those of a window, so that they move rarely.
-const ROOM: usize = 1024;
-
 /// Whether a filter may have these taps and this form.
-pub(crate) fn are_taps(taps: &[i64], form: Form) -> bool
-    ensures { IsTrue result ↔ AreTaps taps.now form }
+pub(crate) fn are_taps(taps: &[i64], form: &Form) -> bool
+    ensures { IsTrue result ↔ AreTaps taps.now form.now }
 {
-    !taps.is_empty()
-        && taps.len() <= TAPS_MAX
+    let ahead = taps.len().saturating_sub(form.again);
+    ahead > 0
+        && ahead <= TAPS_MAX
+        && form.again <= AGAIN_MAX
         && form.shift <= SHIFT_MAX
         && form.plus.unsigned_abs() <= PLUS_MAX
         && form.delay <= DELAY_MAX
         && taps.iter().all(|tap| tap.unsigned_abs() <= TAP_MAX)
-}
-
-/// Makes room for so many more samples of a line, of which the last `kept` stay.
-fn make_room(line: &mut Vec<i64>, kept: usize, count: usize)
-    requires held { kept ≤ length line.old.items }
-    requires room { kept + count ≤ vec_capacity line.old }
-    ensures last { window_of kept line.new.items ≡ window_of kept line.old.items }
-    ensures held { kept ≤ length line.new.items }
-    ensures room { length line.new.items + count ≤ vec_capacity line.new }
-    ensures capacity { vec_capacity line.new ≡ vec_capacity line.old }
-{
-    if line.capacity() - line.len() < count {
-        let start = line.len() - kept;
-        line.copy_within(start.., 0);
-        line.truncate(kept);
-    }
-}
-
-/// Puts these values behind the others, where there is room.
-fn put_all(list: &mut Vec<i64>, values: &[i64])
-    requires room { length list.old.items + length values.now ≤ vec_capacity list.old }
-    ensures items { list.new.items ≡ list.old.items ++ values.now }
-    ensures capacity { vec_capacity list.new ≡ vec_capacity list.old }
-{
-    for value in values {
-        list.push_reserved(*value);
-    }
 }
 
 /// A filter with a finite impulse response: each answer is a weighted sum of the last samples,
@@ -83,14 +59,12 @@ fn put_all(list: &mut Vec<i64>, values: &[i64])
 /// and 0, -1 and -1 where 2 is added, which rounds to the nearest.
 #[derive(Drop)]
 pub struct Fir {
-    taps: Vec<i64>,
-    form: Form,
-    // the last samples, the newest last, behind zeros at first
-    line: Vec<i64>,
-    // the greatest magnitude of samples at which 64 bits hold each sum
-    limit: u64,
-    // after so many more samples within the limit, the window holds no other
-    wide_steps_left: usize,
+    // weighs the samples
+    weigher: Weigher,
+    // the taps that weigh what was put
+    again: Vec<i64>,
+    // what was put, the newest last, behind zeros at first
+    puts: Vec<i64>,
 }
 
 impl Model for Fir {
@@ -106,39 +80,62 @@ impl Model for Fir {
 }
 
 impl Fir {
-    ghost use Rattle.stream_filters.specs.FilterFields.{HasStepped, answer_at};
+    ghost use Rattle.stream_filters.specs.FilterFields.{HasStepped};
+
+    /// Makes a filter with these taps and this shift, before its first sample: it adds nothing, has
+    /// no delay, and looks at samples alone.
+    ///
+    /// It takes memory as `with_form` does. `BadTaps` comes first, also where there are more than
+    /// `FEW_TAPS_MAX`.
+    pub fn new(alloc: Global, taps: &[i64], shift: u32) -> Result<Fir, FirFault>
+        ensures stands { IfOk result (λ fir. StandsFor fir []) }
+        ensures taps { IfOk result (λ fir. fir.taps ≡ taps.now) }
+        ensures form { IfOk result (λ fir. fir.form ≡ by_shift shift) }
+
+        ensures bad_taps { (result ≡ Err FirFault.BadTaps)
+            ↔ ¬ (AreFewTaps taps.now (by_shift shift)) }
+    {
+        if taps.len() > FEW_TAPS_MAX {
+            return Err(FirFault::BadTaps);
+        }
+        let form = Form {
+            shift,
+            plus: 0,
+            delay: 0,
+            again: 0,
+            single: None,
+        };
+        Fir::with_form(alloc, taps, form)
+    }
 
     /// Makes a filter with these taps and this form, before its first sample.
     ///
-    /// It takes memory for the taps, and for twice as many samples as it looks back to and 1,024
-    /// more. `BadTaps` comes first.
-    pub fn new(alloc: Global, taps: &[i64], form: Form) -> Result<Fir, FirFault>
+    /// It takes memory for the taps, and for twice as many values as it looks back to and 1,024
+    /// more, of samples and of what it put. `BadTaps` comes first.
+    pub fn with_form(alloc: Global, taps: &[i64], form: Form) -> Result<Fir, FirFault>
         ensures stands { IfOk result (λ fir. StandsFor fir []) }
         ensures taps { IfOk result (λ fir. fir.taps ≡ taps.now) }
         ensures form { IfOk result (λ fir. fir.form ≡ form) }
 
         ensures bad_taps { (result ≡ Err FirFault.BadTaps) ↔ ¬ (AreTaps taps.now form) }
     {
-        if !are_taps(taps, form) {
+        if !are_taps(taps, &form) {
             return Err(FirFault::BadTaps);
         }
-        let limit = narrow_limit(weight_of(taps), form.plus);
-        let kept = form.delay + taps.len();
-        let Ok(mut line) = Vec::with_capacity(alloc, 2 * kept + ROOM) else {
+        let ahead = taps.len() - form.again;
+        let Ok(weigher) = Weigher::new(alloc, &taps[..ahead], &form) else {
             return Err(FirFault::OutOfMemory);
         };
-        let Ok(()) = line.resize(kept, 0) else {
+        let Ok(again) = Vec::from_slice(alloc, &taps[ahead..]) else {
             return Err(FirFault::OutOfMemory);
         };
-        let Ok(taps) = Vec::from_slice(alloc, taps) else {
+        let Ok(puts) = zeros(alloc, form.again) else {
             return Err(FirFault::OutOfMemory);
         };
         Ok(Fir {
-            taps,
-            form,
-            line,
-            limit,
-            wide_steps_left: 0,
+            weigher,
+            again,
+            puts,
         })
     }
 
@@ -153,8 +150,10 @@ impl Fir {
         ensures taps { self.new.taps ≡ self.old.taps }
         ensures form { self.new.form ≡ self.old.form }
     {
-        self.take(x);
-        self.answer()
+        self.weigher.take(x);
+        let answer = self.answer();
+        self.put(answer);
+        answer
     }
 
     /// Takes the sample `x` into the window, which gives up its oldest one where it is full, and
@@ -168,14 +167,10 @@ impl Fir {
         ensures taps { self.new.taps ≡ self.old.taps }
         ensures form { self.new.form ≡ self.old.form }
     {
-        let kept = self.form.delay + self.taps.len();
-        make_room(&mut self.line, kept, 1);
-        self.line.push_reserved(x);
-        self.wide_steps_left = if x.unsigned_abs() > self.limit {
-            kept
-        } else {
-            self.wide_steps_left.saturating_sub(1)
-        };
+        self.weigher.take(x);
+        if !self.again.is_empty() {
+            self.put(self.answer());
+        }
     }
 
     /// Takes these samples one after the other, and puts their answers behind `made`, where there
@@ -215,35 +210,10 @@ impl Fir {
             ↔ (length made.new.items ≡ length made.old.items + length samples.now) }
         ensures capacity { vec_capacity made.new ≡ vec_capacity made.old }
     {
-        if self.makes_at_once(samples, made) {
+        if is_plain(self.weigher.form()) && self.weigher.makes_at_once(samples, made) {
             return Ok(());
         }
         self.each(samples, made)
-    }
-
-    /// Takes 16 samples and makes their answers at once, where 64 bits hold each sum, and tells
-    /// whether it did. Else all stays as it was.
-    fn makes_at_once(&mut self, samples: &[i64], made: &mut Vec<i64>) -> bool
-        requires many { length samples.now ≡ 16 }
-        requires room { length made.old.items + length samples.now ≤ vec_capacity made.old }
-        ensures steps { IsTrue result
-            → HasStepped self.old self.new samples.now made.old.items made.new.items }
-        ensures all { IsTrue result
-            → length made.new.items ≡ length made.old.items + length samples.now }
-        ensures same { result ≡ false → (self.new ≡ self.old) × (made.new ≡ made.old) }
-        ensures capacity { vec_capacity made.new ≡ vec_capacity made.old }
-    {
-        if self.wide_steps_left > 0 || !are_within(samples, self.limit) {
-            return false;
-        }
-        let kept = self.form.delay + self.taps.len();
-        make_room(&mut self.line, kept, BLOCK);
-        put_all(&mut self.line, samples);
-        let end = self.line.len() - self.form.delay;
-        let shown = &self.line[end + 1 - BLOCK - self.taps.len()..end];
-        let outputs = block_outputs(&self.taps, self.form, shown);
-        put_all(made, &outputs);
-        true
     }
 
     /// Takes these samples one by one.
@@ -260,14 +230,25 @@ impl Fir {
         Ok(())
     }
 
-    /// The answer at the samples in the window.
+    /// The answer behind the windows.
     fn answer(&self) -> Result<i64, TooBigValue>
-        ensures { result ≡ answer_at self.now.taps self.now.form self.now.window }
+        ensures { result ≡ ranged (output_of self.now) }
     {
-        if self.wide_steps_left > 0 {
-            return last_output(&self.taps, self.form, &self.line);
+        let form = self.weigher.form();
+        if is_plain(form) {
+            return self.weigher.answer();
         }
-        let samples = earlier(&self.line, self.form.delay);
-        Ok(narrow_output(&self.taps, self.form, samples))
+        in_range(output_for(form, self.weigher.sum(), &self.again, &self.puts))
+    }
+
+    /// Puts an answer, where it weighs what it puts.
+    fn put(&mut self, answer: Result<i64, TooBigValue>)
+        ensures { (z : ℤ) → answer ≡ ranged z → self.new ≡ with_put self.old (put_of z) }
+    {
+        let kept = self.again.len();
+        if kept > 0 {
+            make_room(&mut self.puts, kept, 1);
+            self.puts.push_reserved(answer.unwrap_or(0));
+        }
     }
 }

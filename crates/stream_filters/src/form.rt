@@ -1,6 +1,8 @@
 //! The form of a filter: all of it but its taps.
-ghost use Rattle.std.specs.Prelude.{◌≡◌};
-ghost use Rattle.stream_filters.specs.Filter.{by_shift};
+ghost use Rattle.std.specs.Prelude.{◌↔◌, IsTrue};
+ghost use Rattle.stream_filters.specs.Filter.{IsPlain};
+
+use phase_accum::Single;
 
 /// What a filter does beside weighing: how old the newest sample is that it weighs, what it adds to
 /// each sum, and by how many bits the sum is shifted down then.
@@ -13,17 +15,17 @@ pub struct Form {
     pub plus: i64,
     /// How many samples before the newest one the first tap weighs, up to `DELAY_MAX`.
     pub delay: usize,
+    /// How many of the taps, the last ones, weigh what the filter put and no samples, up to
+    /// `AGAIN_MAX`: the first of them what it put last.
+    pub again: usize,
+    /// What is applied to each number behind the shift, before its range is looked at: so a clamp
+    /// saturates.
+    pub single: Option<Single>,
 }
 
-impl Form {
-    /// A form that shifts, adds nothing, and weighs from the newest sample on.
-    pub fn by_shift(shift: u32) -> Form
-        ensures { result ≡ by_shift shift }
-    {
-        Form {
-            shift,
-            plus: 0,
-            delay: 0,
-        }
-    }
+/// Whether a filter of this form looks at samples alone, and applies no single.
+pub(crate) fn is_plain(form: &Form) -> bool
+    ensures { IsTrue result ↔ IsPlain form.now }
+{
+    form.again == 0 && form.single.is_none()
 }

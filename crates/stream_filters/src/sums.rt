@@ -1,7 +1,8 @@
 //! The sums of products that the filters answer.
 ghost use Rattle.std.specs.Prelude.{◌≡◌, ◌+◌, ◌*◌, ◌^◌, ◌<◌, ◌≤◌, ◌++◌, length, ◌+ℤ◌, ◌*ℤ◌, unsigned_abs, pos, Ok, ℕ};
-ghost use Rattle.stream_filters.specs.Filter.{AreTaps, back, shifted_down, weight, weighted};
-ghost use Rattle.stream_filters.specs.FilterFields.{IsNarrowBack};
+ghost use Rattle.stream_filters.specs.Sums.{back, shifted_down, weight, weighted};
+ghost use Rattle.stream_filters.specs.Weighing.{AreAhead};
+ghost use Rattle.stream_filters.specs.WeigherFields.{IsNarrowBack};
 ghost use Rattle.stream_filters.specs.Range.{ranged};
 
 use crate::fir::{PLUS_MAX, SHIFT_MAX};
@@ -17,10 +18,10 @@ pub(crate) fn product(x: i64, y: i64) -> i128
 
 /// The sum of each tap times the sample that it weighs, of any size, where the newest sample is the
 /// last.
-fn wide_sum_back(taps: &[i64], samples: &[i64]) -> i128
-    requires { weight taps.now ≤ 2 ^ 37 }
+pub(crate) fn wide_sum_back(taps: &[i64], samples: &[i64]) -> i128
+    requires { weight taps.now ≤ 2 ^ 41 }
     ensures sum { result ≡ weighted (back samples.now) taps.now }
-    ensures small { unsigned_abs result ≤ 2 ^ 100 }
+    ensures small { unsigned_abs result ≤ 2 ^ 104 }
 {
     let mut sum = 0;
     for j in 0..taps.len().min(samples.len()) {
@@ -30,7 +31,7 @@ fn wide_sum_back(taps: &[i64], samples: &[i64]) -> i128
 }
 
 /// The sum divided by 2 to the power `shift`, rounded down.
-fn wide_shifted(wide: i128, shift: u32) -> i128
+pub(crate) fn wide_shifted(wide: i128, shift: u32) -> i128
     requires { shift ≤ SHIFT_MAX }
     ensures { result ≡ shifted_down wide shift }
 {
@@ -70,24 +71,31 @@ fn narrow_shifted(narrow: i64, shift: u32) -> i64
 }
 
 /// The output at the last of these samples, where 64 bits hold the sum.
-pub(crate) fn narrow_output(taps: &[i64], form: Form, samples: &[i64]) -> i64
-    requires narrow { IsNarrowBack taps.now form.plus samples.now }
-    requires shift { form.shift ≤ SHIFT_MAX }
-    ensures { Ok result ≡ ranged (shifted_down (weighted (back samples.now) taps.now +ℤ form.plus)
-        form.shift) }
+pub(crate) fn narrow_output(taps: &[i64], form: &Form, samples: &[i64]) -> i64
+    requires narrow { IsNarrowBack taps.now form.now.plus samples.now }
+    requires shift { form.now.shift ≤ SHIFT_MAX }
+    ensures { Ok result ≡ ranged (shifted_down
+        (weighted (back samples.now) taps.now +ℤ form.now.plus) form.now.shift) }
 {
     narrow_shifted(narrow_sum_back(taps, samples) + form.plus, form.shift)
 }
 
-/// The output at the last of these samples, of any size.
-pub(crate) fn wide_output(taps: &[i64], form: Form, samples: &[i64]) -> i128
-    requires { AreTaps taps.now form }
-    ensures { result ≡ shifted_down (weighted (back samples.now) taps.now +ℤ form.plus) form.shift }
+/// The sum at the last of these samples with what is added to it, of any size.
+pub(crate) fn wide_sum(taps: &[i64], form: &Form, samples: &[i64]) -> i128
+    requires { AreAhead taps.now form.now }
+    ensures sum { result ≡ weighted (back samples.now) taps.now +ℤ form.now.plus }
+    ensures small { unsigned_abs result ≤ 2 ^ 105 }
 {
-    wide_shifted(
-        wide_sum_back(taps, samples) + i128::from(form.plus),
-        form.shift,
-    )
+    wide_sum_back(taps, samples) + i128::from(form.plus)
+}
+
+/// The number at the last of these samples, of any size.
+pub(crate) fn wide_output(taps: &[i64], form: &Form, samples: &[i64]) -> i128
+    requires { AreAhead taps.now form.now }
+    ensures { result ≡ shifted_down
+        (weighted (back samples.now) taps.now +ℤ form.now.plus) form.now.shift }
+{
+    wide_shifted(wide_sum(taps, form, samples), form.shift)
 }
 
 /// The samples up to the one that stands so many before the last.
@@ -99,7 +107,7 @@ pub(crate) fn earlier(samples: &[i64], delay: usize) -> &[i64]
 
 /// The sum of the taps' magnitudes.
 pub(crate) fn weight_of(taps: &[i64]) -> u64
-    requires { weight taps.now ≤ 2 ^ 37 }
+    requires { weight taps.now ≤ 2 ^ 41 }
     ensures { result ≡ weight taps.now }
 {
     taps.iter().map(|tap| tap.unsigned_abs()).sum()

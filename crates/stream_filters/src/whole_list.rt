@@ -1,15 +1,18 @@
 //! A filter over a whole list of samples.
 ghost use Rattle.std.specs.Prelude.{◌≡◌, ◌↔◌, ◌+◌, ◌-◌, ◌≤◌, ℕ, [], length, IfOk, OnOk, IsTrue, None, Some, Err, unsigned_abs};
 ghost use Rattle.std.specs.List.{All, position_from};
-ghost use Rattle.stream_filters.specs.Filter.{AreTaps, output_after, outputs, reach};
-ghost use Rattle.stream_filters.specs.FilterFields.{AreSmall, AreSmallAt, MadeSoFar};
+ghost use Rattle.stream_filters.specs.Filter.{AreTaps, outputs};
+ghost use Rattle.stream_filters.specs.Weighing.{AreAhead, span, weighed, weighed_after};
+ghost use Rattle.stream_filters.specs.WeigherFields.{AreSmall, AreSmallAt};
+ghost use Rattle.stream_filters.specs.FilterFields.{MadeSoFar};
 ghost use Rattle.stream_filters.specs.Range.{is_out_of_range, ranged};
 
 use crate::blocks::{BLOCK, block_outputs};
 use crate::fault::{FilterFault, TooBigValue};
 use crate::fir::are_taps;
-use crate::form::Form;
+use crate::form::{Form, is_plain};
 use crate::range::in_range;
+use crate::recursive::output_behind;
 use crate::sums::{earlier, narrow_limit, weight_of, wide_output};
 use std::alloc::{AllocError, Global};
 
@@ -20,10 +23,10 @@ pub(crate) fn are_within(samples: &[i64], limit: u64) -> bool
     samples.iter().all(|x| x.unsigned_abs() <= limit)
 }
 
-/// The output at the last of these samples.
-pub(crate) fn last_output(taps: &[i64], form: Form, samples: &[i64]) -> Result<i64, TooBigValue>
-    requires { AreTaps taps.now form }
-    ensures { result ≡ ranged (output_after taps.now form samples.now) }
+/// The answer at the last of these samples, where they alone are weighed.
+pub(crate) fn last_weighed(taps: &[i64], form: &Form, samples: &[i64]) -> Result<i64, TooBigValue>
+    requires { AreAhead taps.now form.now }
+    ensures { result ≡ ranged (weighed_after taps.now form.now samples.now) }
 {
     in_range(wide_output(taps, form, earlier(samples, form.delay)))
 }
@@ -33,21 +36,22 @@ pub(crate) fn last_output(taps: &[i64], form: Form, samples: &[i64]) -> Result<i
 fn add_each(
     list: &mut Vec<i64>,
     taps: &[i64],
-    form: Form,
+    form: &Form,
     samples: &[i64],
     at: usize,
     end: usize,
 ) -> Result<(), FilterFault>
-    requires taps { AreTaps taps.now form }
+    requires taps { AreAhead taps.now form.now }
     requires within { (at ≤ end) × (end ≤ length samples.now) }
-    requires made { MadeSoFar (outputs taps.now form samples.now) list.old.items at }
-    ensures made { OnOk result (MadeSoFar (outputs taps.now form samples.now) list.new.items end) }
+    requires made { MadeSoFar (weighed taps.now form.now samples.now) list.old.items at }
+    ensures made { OnOk result
+        (MadeSoFar (weighed taps.now form.now samples.now) list.new.items end) }
     ensures too_big { (step : ℕ) → result ≡ Err (FilterFault.TooBig step)
-        → position_from is_out_of_range 0 (outputs taps.now form samples.now) ≡ Some step }
+        → position_from is_out_of_range 0 (weighed taps.now form.now samples.now) ≡ Some step }
     ensures taps_stand { result ≡ Err FilterFault.BadTaps → ⊥ }
 {
     for n in at..end {
-        let Ok(y) = last_output(taps, form, &samples[..n + 1]) else {
+        let Ok(y) = last_weighed(taps, form, &samples[..n + 1]) else {
             return Err(FilterFault::TooBig(n));
         };
         let Ok(()) = list.push(y) else {
@@ -62,16 +66,16 @@ fn add_each(
 fn add_block(
     list: &mut Vec<i64>,
     taps: &[i64],
-    form: Form,
+    form: &Form,
     samples: &[i64],
     at: usize,
 ) -> Result<(), AllocError>
-    requires taps { AreTaps taps.now form }
-    requires within { (reach taps.now form ≤ at + 1) × (at + 16 ≤ length samples.now) }
-    requires small { AreSmallAt taps.now form.plus samples.now (at - form.delay) }
-    requires made { MadeSoFar (outputs taps.now form samples.now) list.old.items at }
+    requires taps { AreAhead taps.now form.now }
+    requires within { (span taps.now form.now ≤ at + 1) × (at + 16 ≤ length samples.now) }
+    requires small { AreSmallAt taps.now form.now.plus samples.now (at - form.now.delay) }
+    requires made { MadeSoFar (weighed taps.now form.now samples.now) list.old.items at }
     ensures made { OnOk result
-        (MadeSoFar (outputs taps.now form samples.now) list.new.items (at + 16)) }
+        (MadeSoFar (weighed taps.now form.now samples.now) list.new.items (at + 16)) }
 {
     let first = at - form.delay;
     let shown = &samples[first + 1 - taps.len()..first + BLOCK];
@@ -93,20 +97,21 @@ fn small_since(samples: &[i64], limit: u64, since: usize, at: usize, end: usize)
     }
 }
 
-/// Makes the outputs at all samples, or finds the first step at which one is out of range.
+/// Makes the outputs at all samples, where they alone are weighed, or finds the first step at which
+/// one is out of range.
 fn add_all(
     list: &mut Vec<i64>,
     taps: &[i64],
-    form: Form,
+    form: &Form,
     samples: &[i64],
 ) -> Result<(), FilterFault>
-    requires taps { AreTaps taps.now form }
+    requires taps { AreAhead taps.now form.now }
     requires empty { list.old.items ≡ [] }
-    ensures ok { OnOk result (list.new.items ≡ outputs taps.now form samples.now) }
+    ensures ok { OnOk result (list.new.items ≡ weighed taps.now form.now samples.now) }
     ensures in_range { OnOk result
-        (position_from is_out_of_range 0 (outputs taps.now form samples.now) ≡ None) }
+        (position_from is_out_of_range 0 (weighed taps.now form.now samples.now) ≡ None) }
     ensures too_big { (step : ℕ) → result ≡ Err (FilterFault.TooBig step)
-        → position_from is_out_of_range 0 (outputs taps.now form samples.now) ≡ Some step }
+        → position_from is_out_of_range 0 (weighed taps.now form.now samples.now) ≡ Some step }
     ensures taps_stand { result ≡ Err FilterFault.BadTaps → ⊥ }
 {
     let limit = narrow_limit(weight_of(taps), form.plus);
@@ -125,6 +130,56 @@ fn add_all(
         at = end;
     }
     Ok(())
+}
+
+/// Makes the outputs at all samples one by one, or finds the first step at which one is out of
+/// range. The list has what was put so far.
+fn add_in_turn(
+    list: &mut Vec<i64>,
+    taps: &[i64],
+    form: &Form,
+    samples: &[i64],
+) -> Result<(), FilterFault>
+    requires taps { AreTaps taps.now form.now }
+    requires empty { list.old.items ≡ [] }
+    ensures ok { OnOk result (list.new.items ≡ outputs taps.now form.now samples.now) }
+    ensures in_range { OnOk result
+        (position_from is_out_of_range 0 (outputs taps.now form.now samples.now) ≡ None) }
+    ensures too_big { (step : ℕ) → result ≡ Err (FilterFault.TooBig step)
+        → position_from is_out_of_range 0 (outputs taps.now form.now samples.now) ≡ Some step }
+    ensures taps_stand { result ≡ Err FilterFault.BadTaps → ⊥ }
+{
+    for n in 0..samples.len() {
+        let Ok(y) = in_range(output_behind(taps, form, &samples[..n + 1], list)) else {
+            return Err(FilterFault::TooBig(n));
+        };
+        let Ok(()) = list.push(y) else {
+            return Err(FilterFault::OutOfMemory);
+        };
+    }
+    Ok(())
+}
+
+/// Makes the outputs at all samples, or finds the first step at which one is out of range.
+fn add_outputs(
+    list: &mut Vec<i64>,
+    taps: &[i64],
+    form: &Form,
+    samples: &[i64],
+) -> Result<(), FilterFault>
+    requires taps { AreTaps taps.now form.now }
+    requires empty { list.old.items ≡ [] }
+    ensures ok { OnOk result (list.new.items ≡ outputs taps.now form.now samples.now) }
+    ensures in_range { OnOk result
+        (position_from is_out_of_range 0 (outputs taps.now form.now samples.now) ≡ None) }
+    ensures too_big { (step : ℕ) → result ≡ Err (FilterFault.TooBig step)
+        → position_from is_out_of_range 0 (outputs taps.now form.now samples.now) ≡ Some step }
+    ensures taps_stand { result ≡ Err FilterFault.BadTaps → ⊥ }
+{
+    if is_plain(form) {
+        return add_all(list, taps, form, samples);
+    }
+    add_in_turn(list, taps, form, samples)
 }
 
 /// Makes the outputs of a filter with these taps and this form at each of these samples, or finds
@@ -149,12 +204,12 @@ pub fn filter_list(
     ensures too_big { (step : ℕ) → result ≡ Err (FilterFault.TooBig step)
         → position_from is_out_of_range 0 (outputs taps.now form samples.now) ≡ Some step }
 {
-    if !are_taps(taps, form) {
+    if !are_taps(taps, &form) {
         return Err(FilterFault::BadTaps);
     }
     let Ok(mut list) = Vec::with_capacity(alloc, samples.len()) else {
         return Err(FilterFault::OutOfMemory);
     };
-    add_all(&mut list, taps, form, samples)?;
+    add_outputs(&mut list, taps, &form, samples)?;
     Ok(list)
 }

@@ -6,9 +6,10 @@ use Rattle.std.proofs.Math.Seq.{take-add}
 use Rattle.graph_base.specs.Graphs.{Task}
 use Rattle.stream_filters.specs.declared.fault.TooBigValue.{TooBigValue}
 use Rattle.stream_filters.specs.declared.form.Form.{Form}
-use Rattle.stream_filters.specs.Filter.{FirState, output_after}
+use Rattle.stream_filters.specs.Filter.{FirState, output_after, puts_of}
 use Rattle.stream_filters.specs.Range.{before_out_of_range, is_out_of_range, ranged}
-use Rattle.stream_filters.proofs.Stepped.{before-cons, length-outputs_of_block, outputs_of_block-append, ranged-all}
+use Rattle.stream_filters.proofs.Before.{before-cons, ranged-all}
+use Rattle.stream_filters.proofs.Outputs.{behind-take, length-outputs_of_block, outputs_of_block-append, outputs_of_block-one}
 use Rattle.graph_runs.specs.Steps.{HasFilter}
 use Rattle.graph_runs.specs.TaskPlaces.{outputs_of_block}
 use Rattle.phase_accum.specs.declared.outcome.Outcome.{Outcome}
@@ -50,7 +51,8 @@ pub filtered_one : (task : Task) (x : ℤ) (old new : Option FirState)
     → ((taken : List ℤ) → HasFilter task old taken → HasFilter task new (taken ++ x ∷ []))
     → after ≡ made ++ answer ∷ [] → HasFiltered task (x ∷ []) old new made after
 filtered_one task x old new answer made after is next items = record {
-  answers = λ taken has. items ∙ ap (λ r. made ++ r ∷ []) (is taken has);
+  answers = λ taken has. items ∙ (ap (λ r. made ++ r ∷ []) (is taken has)
+      ∙ ap (λ l. made ++ map ranged l) (sym (outputs_of_block-one task.taps task.form taken x)));
   filter = next;
 }
 
@@ -109,11 +111,7 @@ ranged-some (z ∷ zs) less = by (ranged-some zs) (fits z) refl
 outputs-take : (n : ℕ) (taps : List ℤ) (form : Form) (taken ys : List ℤ)
     → outputs_of_block taps form taken (take n ys)
     ≡ take n (outputs_of_block taps form taken ys)
-outputs-take zero taps form taken ys = refl
-outputs-take (suc n) taps form taken [] = refl
-outputs-take (suc n) taps form taken (y ∷ ys) =
-    ap (λ zs. output_after taps form (taken ++ y ∷ []) ∷ zs)
-    (outputs-take n taps form (taken ++ y ∷ []) ys)
+outputs-take n taps form taken ys = behind-take n taps form taken (puts_of taps form taken) ys
 
 -- a filter was given numbers up to the first answer out of range, or all of them where there is none
 pub filtered_so : (task : Task) (ys : List ℤ) (old new : Option FirState) (values : List ℤ)

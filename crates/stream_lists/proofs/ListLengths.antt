@@ -3,6 +3,7 @@ use Rattle.std.proofs.Common.{◌≡◌, ℕ, ◌+◌, ◌-◌, ◌<◌, ◌≤�
 use Rattle.std.specs.Prelude.{Option, nat_lt, if◌then◌else◌}
 use Rattle.std.proofs.lemmas.List.{length-map, length-take-le, length-drop}
 use Rattle.std.proofs.lemmas.List.FromFn.{length-map-range_with_len}
+use Rattle.stream_filters.proofs.Outputs.{outputs-length}
 use Rattle.graph_base.specs.Graphs.{Task, task_at}
 use Rattle.graph_base.specs.TaskLines.{IsGraph, IsTaskLine, HasEnds}
 use Rattle.graph_base.specs.declared.line.Kind.{Kind}
@@ -143,8 +144,7 @@ length-output samples taken task steps j ends lt enough one = by task.kind refl
         → length (output_list samples taken task steps j) ≡ puts_on task steps j
     by Source e = rw e (length-take-le steps samples (enough e))
     by Fir e =
-        rw e (length-map-range_with_len _ 0 (length (get_or taken 0 []))
-        ∙ one (ap takes_one e))
+        rw e (outputs-length task.taps task.form (get_or taken 0 []) ∙ one (ap takes_one e))
     by Split e = rw e (turns (length task.outputs) j (one (ap takes_one e)))
     by Decimate e = rw e (turns task.every 0 (one (ap takes_one e)))
     by Join e = rw e (length-map-range_with_len (turn_at taken) 0 steps)

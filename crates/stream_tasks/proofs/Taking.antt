@@ -7,7 +7,8 @@ use Rattle.std.proofs.Math.Seq.{take-add}
 use Rattle.stream_filters.specs.Filter.{FirState}
 use Rattle.stream_filters.specs.Range.{before_out_of_range, ranged}
 use Rattle.stream_lists.specs.Lists.{number}
-use Rattle.stream_filters.proofs.Stepped.{length-outputs_of_block, outputs_of_block-append, ranged-all}
+use Rattle.stream_filters.proofs.Before.{ranged-all}
+use Rattle.stream_filters.proofs.Outputs.{length-outputs_of_block, outputs_of_block-append}
 use Rattle.phase_accum.specs.declared.outcome.Outcome.{Outcome}
 use Rattle.graph_base.specs.Graphs.{Task}
 use Rattle.graph_base.specs.declared.line.Kind.{Kind}

@@ -15,7 +15,13 @@ fn made(fir: Result<Fir, FirFault>) -> Result<Fir, AllocError> {
 type Numbers = (u32, i64, usize);
 
 fn by((shift, plus, delay): Numbers) -> Form {
-    Form { shift, plus, delay }
+    Form {
+        shift,
+        plus,
+        delay,
+        again: 0,
+        single: None,
+    }
 }
 
 /// What a step answers.
@@ -145,7 +151,7 @@ static CASES: [Case; 11] = [
 #[test]
 fn a_filter_answers_its_steps(rt: HostRuntime) -> Result<(), Fail> {
     for case in &CASES {
-        let mut fir = made(Fir::new(rt.alloc(), case.taps, by(case.form)))?;
+        let mut fir = made(Fir::with_form(rt.alloc(), case.taps, by(case.form)))?;
         for (count, sample, wanted) in case.steps {
             for _ in 0..*count {
                 let found = fir.step(*sample);
@@ -205,7 +211,7 @@ fn peers_and_turns(rt: HostRuntime) -> Result<(), Fail> {
 /// Taps and a form that no filter has.
 static BAD: [(&str, &[i64], Numbers); 6] = [
     ("no taps", &[], (0, 0, 0)),
-    ("too many taps", &[0; 65], (0, 0, 0)),
+    ("too many taps", &[0; 1025], (0, 0, 0)),
     ("a tap past its limit", &[2_147_483_648], (0, 0, 0)),
     ("a shift past its limit", &[1], (63, 0, 0)),
     (
@@ -219,7 +225,7 @@ static BAD: [(&str, &[i64], Numbers); 6] = [
 #[test]
 fn bad_taps_are_refused(rt: HostRuntime) {
     for (name, taps, form) in &BAD {
-        let fir = Fir::new(rt.alloc(), taps, by(*form));
+        let fir = Fir::with_form(rt.alloc(), taps, by(*form));
         assert!(rt; matches!(fir, Err(FirFault::BadTaps)), "{name}");
         let list = filter_list(rt.alloc(), taps, by(*form), &[]);
         assert!(rt;

@@ -12,6 +12,8 @@ mod jobs;
 #[cfg(test)]
 mod lists;
 #[cfg(test)]
+mod recursive;
+#[cfg(test)]
 mod registrations;
 #[cfg(test)]
 mod samples;

@@ -1,5 +1,5 @@
 -- Tests of a graph: that it is one as they are read.
-use Rattle.std.proofs.Common.{◌≡◌, ℕ, suc, ◌<◌, ◌≤◌, All, Contains, IfSome, IsSome, is_some, IsTrue, Bool, true, false, not, cond, List, [], ◌∷◌, ◌++◌, Option, Some, None, ℤ, pos, length, bytes_eq, get_or, unsigned_abs, refl, sym, ap, ◌∙◌, arith}
+use Rattle.std.proofs.Common.{◌≡◌, ℕ, suc, ◌<◌, ◌≤◌, All, Contains, IfSome, IsSome, is_some, IsTrue, Bool, true, false, not, cond, List, [], ◌∷◌, ◌++◌, ◌-◌, Option, Some, None, ℤ, pos, length, bytes_eq, get_or, unsigned_abs, refl, sym, ap, ◌∙◌, arith}
 use Rattle.std.proofs.lemmas.List.Elements.{All-nil, All-cons}
 use Rattle.std.proofs.lemmas.Option.{same_Some}
 use Rattle.std.proofs.lemmas.Slice.Eq.{bytes_eq-Decides}
@@ -80,42 +80,56 @@ is_exchange_below Decimate inputs = always tt
 is_exchange_below Join inputs = always tt
 is_exchange_below Sink inputs = always tt
 
--- a form is known by its numbers
-form_by : (shift : ℕ) (plus : ℤ) (delay : ℕ) → shift ≡ 0 → plus ≡ pos 0 → delay ≡ 0
+-- a form is known by its parts
+form_by : (shift : ℕ) (plus : ℤ) (delay again : ℕ) (single : Option Single) → shift ≡ 0
+    → plus ≡ pos 0 → delay ≡ 0 → again ≡ 0 → single ≡ None
     → record {
       shift = shift;
       plus = plus;
       delay = delay;
+      again = again;
+      single = single;
     } ≡ no_form
-form_by shift plus delay a b c = rw (a, b, c) refl
+form_by shift plus delay again single a b c d e = rw (a, b, c, d, e) refl
 
-pub form_is : (form : Form) → form.shift ≡ 0 → form.plus ≡ pos 0 → form.delay ≡ 0 → form ≡ no_form
-form_is form a b c = form_by form.shift form.plus form.delay a b c
+pub form_is : (form : Form) → form.shift ≡ 0 → form.plus ≡ pos 0 → form.delay ≡ 0
+    → form.again ≡ 0 → form.single ≡ None → form ≡ no_form
+form_is form a b c d e =
+    form_by form.shift form.plus form.delay form.again form.single a b c d e
+
+abbrev no_single : (single : Option Single) → Test (single ≡ None)
+no_single None = always refl
+no_single (Some single) = never
 
 abbrev pub no_taps : (taps : List ℤ) (form : Form) → Test ((taps ≡ []) × (form ≡ no_form))
 no_taps taps form =
-    giving (λ b. (b.left, form_is form b.right.left b.right.right.left b.right.right.right))
+    giving (λ b. (b.left, form_is form b.right.left b.right.right.left b.right.right.right.left
+    b.right.right.right.right.left b.right.right.right.right.right))
     (both (test.is_empty taps)
     (both (test.is_equal form.shift 0)
-    (both (test.is_value form.plus (pos 0)) (test.is_equal form.delay 0))))
+    (both (test.is_value form.plus (pos 0))
+    (both (test.is_equal form.delay 0)
+    (both (test.is_equal form.again 0) (no_single form.single))))))
 
 abbrev pub has_taps : (kind : Kind) (taps : List ℤ) (form : Form) → Test (HasTaps kind taps form)
 has_taps Fir taps form =
     giving (λ b. record {
       some = b.left;
       few = b.right.left;
-      small = b.right.right.left;
-      shift_small = b.right.right.right.left;
-      plus_small = b.right.right.right.right.left;
-      delay_small = b.right.right.right.right.right;
+      again_few = b.right.right.left;
+      small = b.right.right.right.left;
+      shift_small = b.right.right.right.right.left;
+      plus_small = b.right.right.right.right.right.left;
+      delay_small = b.right.right.right.right.right.right;
     })
-    (both (test.is_at_most 1 (length taps))
-    (both (test.is_at_most (length taps) 64)
+    (both (test.is_at_most 1 (length taps - form.again))
+    (both (test.is_at_most (length taps - form.again) 1024)
+    (both (test.is_at_most form.again 64)
     (both (all_of (λ tap. unsigned_abs tap ≤ 2147483647) taps
     (λ tap. test.is_at_most (unsigned_abs tap) 2147483647))
     (both (test.is_at_most form.shift 62)
     (both (test.is_at_most (unsigned_abs form.plus) 4611686018427387904)
-    (test.is_at_most form.delay 65536))))))
+    (test.is_at_most form.delay 65536)))))))
 has_taps Source taps form = no_taps taps form
 has_taps Split taps form = no_taps taps form
 has_taps Decimate taps form = no_taps taps form

@@ -1,15 +1,12 @@
-use Rattle.std.proofs.Common.{◌≡◌, ◌<◌, ◌++◌, ℕ, length, drop, refl, ap, ◌∙◌, subst, arith}
+use Rattle.std.proofs.Common.{◌≡◌, ◌<◌, ◌++◌, ℕ, length, drop, refl, ap, ◌∙◌, arith}
 use Rattle.stream_filters.specs.Filter.{by_shift}
-use Rattle.phase_c.specs.Filtered.{AreOfFilter, RefusesBlock}
 use Rattle.phase_c.proofs.Streams.{filters_all, filters_to}
 use Rattle.phase_c.proofs.in_place.filter_in_place.Goals as goal
 
 -- nothing was written
 pub returns-in-Err-clause-refused : goal.returns-in-Err-clause-refused
 returns-in-Err-clause-refused c =
-    subst (λ form. RefusesBlock c.args.taps.now form c.args.state.now c.args.block.now
-    c.args.block.now c.args.block.now 0 c.in-Err.why) c.by_shift-form.ensures
-    (c.in-Err.ensures.refused c.args.block.now c.args.block.now refl refl)
+    c.in-Err.ensures.refused c.args.block.now c.args.block.now refl refl
 
 -- the filter behind the state met a value out of range
 pub returns-then-done-block-clause-refused : goal.returns-then-done-block-clause-refused
@@ -21,10 +18,9 @@ returns-then-done-block-clause-refused c =
     let made = c.in-Ok.ensures in
     let went = c.steps_in_place.ensures in
     let less : n < length block = omega (arith, c.if-done-block.true) in
-    let of_filter = subst (λ form. AreOfFilter c.args.taps.now form state)
-    c.by_shift-form.ensures made.of_filter in
+    let of_filter = made.of_filter in
     filters_to c.args.taps.now (by_shift c.args.shift) state block block new n
-    c.in-Ok.fir of_filter made.taps (made.form ∙ c.by_shift-form.ensures) made.stands made.room
+    c.in-Ok.fir of_filter made.taps made.form made.stands made.room
     went.few went.written
     went.fits went.behind less went.too_big
 
@@ -41,9 +37,8 @@ returns-clause-done c =
     let kept = c.copy_from_slice-2.ensures.after
     ∙ (c.keep.ensures ∙ ap (λ xs. drop (length block) (xs ++ block)) c.copy_from_slice.ensures.after)
     in
-    let of_filter = subst (λ form. AreOfFilter c.args.taps.now form state)
-    c.by_shift-form.ensures made.of_filter in
+    let of_filter = made.of_filter in
     filters_all c.args.taps.now (by_shift c.args.shift) state block block new n
-    c.in-Ok.fir of_filter made.taps (made.form ∙ c.by_shift-form.ensures) made.stands made.room
+    c.in-Ok.fir of_filter made.taps made.form made.stands made.room
     went.few went.written
     went.fits went.behind c.copy_from_slice-2.new.self all kept

@@ -28,7 +28,8 @@ returns-in-Ok c =
     let lead = c.min-lead.result in
     let whole = outputs c.args.taps.now c.args.form c.args.samples.now in
     let part = filter-part c.args.taps.now c.args.samples.now c.in-Ok.list.items c.args.form lead
-    c.args.from c.args.to (omega (arith, c.min-lead.ensures)) c.requires.order c.requires.within
+    c.args.from c.args.to (omega (arith, c.if-form-gt0.false)) (omega (arith, c.min-lead.ensures))
+    c.requires.order c.requires.within
     (enough (cases_lt c.args.from (reach c.args.taps.now c.args.form - 1))) c.in-Ok.ensures.ok
     c.in-Ok.ensures.in_range in
     IfSome-weaker c.behind.result _ _

@@ -12,7 +12,7 @@ short_lanes-lanes-requires-clause-short c =
     let taps = c.args.taps.now in
     let samples = c.args.samples.now in
     rw (lanes-read taps samples c.loop-j.j c.loop-j-test.true c.requires.enough)
-    (lanes_at-short taps c.args.form.plus samples c.requires.narrow c.loop-j.j)
+    (lanes_at-short taps c.args.form.now.plus samples c.requires.narrow c.loop-j.j)
 
 pub scaled-requires-clause-short : goal.scaled-requires-clause-short
 scaled-requires-clause-short c =
@@ -21,7 +21,7 @@ scaled-requires-clause-short c =
     let j = c.loop-j.j in
     short-handed _ (lanes_at taps samples j)
     (c.short_lanes-lanes.ensures ∙ lanes-read taps samples j c.loop-j-test.true c.requires.enough)
-    (lanes_at-short taps c.args.form.plus samples c.requires.narrow j)
+    (lanes_at-short taps c.args.form.now.plus samples c.requires.narrow j)
 
 -- no sum is too large
 pub added-sums-requires : goal.added-sums-requires
@@ -33,9 +33,9 @@ added-sums-requires c =
     let narrow = c.requires.narrow in
     let lanes = c.short_lanes-lanes.ensures ∙ lanes-read taps samples j lt c.requires.enough in
     sums-handed _ (sums_after taps samples j) _ (products_at taps samples j) c.loop-j.invariant
-    (products-made taps c.args.form.plus samples _ _ j narrow lt lanes c.scaled.ensures)
-    (sums_after-fit taps c.args.form.plus samples narrow j) (products_at-fit taps c.args.form.plus samples narrow j lt)
-    (lanes-add_up taps c.args.form.plus samples narrow j lt)
+    (products-made taps c.args.form.now.plus samples _ _ j narrow lt lanes c.scaled.ensures)
+    (sums_after-fit taps c.args.form.now.plus samples narrow j) (products_at-fit taps c.args.form.now.plus samples narrow j lt)
+    (lanes-add_up taps c.args.form.now.plus samples narrow j lt)
 
 -- the sums with one more tap
 pub loop-j-preserved : goal.loop-j-preserved
@@ -50,9 +50,9 @@ loop-j-preserved c =
     let sums : c.added-sums.result ≡ sums_after taps samples (suc j) =
     added-handed _ (sums_after taps samples j) _ (products_at taps samples j)
     (sums_after taps samples (suc j)) _
-    c.added-sums.ensures c.loop-j.invariant (products-made taps c.args.form.plus samples _ _ j narrow lt lanes
+    c.added-sums.ensures c.loop-j.invariant (products-made taps c.args.form.now.plus samples _ _ j narrow lt lanes
     c.scaled.ensures)
-    (sums_after-fit taps c.args.form.plus samples narrow j) (products_at-fit taps c.args.form.plus samples narrow j lt)
+    (sums_after-fit taps c.args.form.now.plus samples narrow j) (products_at-fit taps c.args.form.now.plus samples narrow j lt)
     (sums_after-more taps samples j lt) in
     ap (map (of_z w64)) (sums ∙ ap (sums_after taps samples) next)
 
@@ -60,7 +60,7 @@ loop-j-preserved c =
 pub with_added-requires-clause-fits : goal.with_added-requires-clause-fits
 with_added-requires-clause-fits c =
     let taps = c.args.taps.now in
-    let plus = c.args.form.plus in
+    let plus = c.args.form.now.plus in
     let samples = c.args.samples.now in
     let fits : FitsSigned w64 plus = search rules in
     rw (
@@ -72,7 +72,7 @@ with_added-requires-clause-fits c =
 pub lanes_shifted-requires-clause-fits : goal.lanes_shifted-requires-clause-fits
 lanes_shifted-requires-clause-fits c =
     let taps = c.args.taps.now in
-    let plus = c.args.form.plus in
+    let plus = c.args.form.now.plus in
     let samples = c.args.samples.now in
     let fits : FitsSigned w64 plus = search rules in
     let sums = sums-added taps plus _ samples c.loop-j.j c.loop-j.sums c.with_added.result
@@ -86,10 +86,10 @@ lanes_shifted-requires-clause-fits c =
 pub returns : goal.returns
 returns c =
     let taps = c.args.taps.now in
-    let plus = c.args.form.plus in
+    let plus = c.args.form.now.plus in
     let samples = c.args.samples.now in
     let fits : FitsSigned w64 plus = search rules in
-    outputs-handed taps c.args.form samples c.with_added.result c.lanes_shifted.result
+    outputs-handed taps c.args.form.now samples c.with_added.result c.lanes_shifted.result
     c.requires.narrow
     (sums-added taps plus _ samples c.loop-j.j c.loop-j.sums c.with_added.result c.requires.narrow
     c.loop-j-test.false c.loop-j.invariant (to_z-of_z w64 plus fits) c.with_added.ensures)

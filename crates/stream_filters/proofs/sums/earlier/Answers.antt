@@ -1,5 +1,5 @@
 use Rattle.std.proofs.Common.{◌≡◌, ◌-◌, length, take, ap, ◌∙◌, arith}
-use Rattle.stream_filters.specs.Filter.{back}
+use Rattle.stream_filters.specs.Sums.{back}
 use Rattle.stream_filters.proofs.Outputs.{back-earlier}
 use Rattle.stream_filters.proofs.sums.earlier.Goals as goal
 

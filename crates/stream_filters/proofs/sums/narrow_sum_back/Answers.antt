@@ -1,7 +1,7 @@
 use Rattle.std.proofs.Common.{rules, arith, ◌≡◌, ℕ, ◌+◌, ◌-◌, ◌<◌, ◌≤◌, length, reverse, slice_index_or, pos, ◌+ℤ◌, ◌*ℤ◌, unsigned_abs, w64, FitsSigned, to_z, of_z, refl, sym, ◌∙◌}
 use Rattle.std.proofs.lemmas.Int.{to_z-of_z, fits_signed_from_abs}
 use Rattle.std.proofs.lemmas.List.{length-reverse, get_or-reverse}
-use Rattle.stream_filters.specs.Filter.{back}
+use Rattle.stream_filters.specs.Sums.{back}
 use Rattle.stream_filters.proofs.Weighted.{IsSumOf, IsSumOf-none, IsSumOf-more, IsSumOf-small, IsSumOf-enough}
 use Rattle.stream_filters.proofs.sums.narrow_sum_back.Goals as goal
 

@@ -1,6 +1,6 @@
 use Rattle.std.proofs.Common.{ℕ, ◌≤◌, ◌<◌, reverse, length}
 use Rattle.std.specs.Prelude.{unsigned_abs}
-use Rattle.stream_filters.specs.Filter.{back}
+use Rattle.stream_filters.specs.Sums.{back}
 use Rattle.stream_filters.proofs.Weighted.{IsSumOf}
 use Rattle.stream_filters.proofs.sums.narrow_sum_back.Given as goal
 

@@ -4,7 +4,7 @@ use Rattle.std.proofs.lemmas.Int.{to_z-of_z, fits_signed_from_abs}
 use Rattle.std.proofs.lemmas.List.{length-reverse, get_or-reverse}
 use Rattle.std.proofs.lemmas.Nat.{mul-le}
 use Rattle.std.specs.Int.Signed.{nat_abs-le}
-use Rattle.stream_filters.specs.Filter.{weight}
+use Rattle.stream_filters.specs.Sums.{weight}
 use Rattle.stream_filters.proofs.Weighted.{IsSumOf, IsSumOf-none, IsSumOf-more, IsSumOf-small, IsSumOf-enough}
 use Rattle.stream_filters.proofs.sums.wide_sum_back.Goals as goal
 
@@ -13,8 +13,8 @@ pub loop-j-init : goal.loop-j-init
 loop-j-init c = IsSumOf-none _ c.args.taps.now (reverse c.args.samples.now)
 
 -- a sum over taps of this weight has at most 100 bits
-light_taps : (n : ℕ) → n ≤ 2 ^ 37 → n * 2 ^ 63 ≤ 2 ^ 100
-light_taps n light = mul-le n (2 ^ 63) (2 ^ 37) (2 ^ 63) light (omega arith)
+light_taps : (n : ℕ) → n ≤ 2 ^ 41 → n * 2 ^ 63 ≤ 2 ^ 104
+light_taps n light = mul-le n (2 ^ 63) (2 ^ 41) (2 ^ 63) light (omega arith)
 
 -- what is added
 added : (c : goal.After-product-sum) → to_z w128 (of_z w128 c.product-sum.result)
@@ -53,7 +53,7 @@ pub overflow_add-sum : goal.overflow_add-sum
 overflow_add-sum c =
     rw (added c) (fits_signed_from_abs w128 _ (
     let small = IsSumOf-small _ _ _ _ _ (more c) in
-    let light : weight c.args.taps.now * 2 ^ 63 ≤ 2 ^ 100 = light_taps _ c.requires in
+    let light : weight c.args.taps.now * 2 ^ 63 ≤ 2 ^ 104 = light_taps _ c.requires in
     omega arith))
 
 -- so nothing is lost

@@ -2,7 +2,7 @@ use Rattle.std.proofs.Common.{◌-◌, length}
 use Rattle.stream_filters.proofs.WholeLists.{AreFiltered}
 use Rattle.stream_filters.proofs.whole_list.add_all.Given as goal
 
--- the outputs at the samples before number `at`
+-- the weighed at the samples before number `at`
 abbrev pub invariant-loop-at : goal.invariant-loop-at
 invariant-loop-at l = AreFiltered l.taps l.form l.samples l.list.items l.at l.small_from l.limit
 

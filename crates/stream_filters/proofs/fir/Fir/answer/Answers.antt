@@ -1,43 +1,45 @@
-use Rattle.std.proofs.Common.{rules, arith, ◌+◌, ◌+ℤ◌, Ok, w64, FitsSigned, ap, ◌∙◌}
+use Rattle.std.proofs.Common.{rules, ◌≤◌, ◌^◌, ◌++◌, FitsSigned, sym, ap, subst, ◌∙◌}
+use Rattle.std.specs.Int.{w128}
 use Rattle.std.proofs.lemmas.Int.{to_z-of_z}
-use Rattle.stream_filters.specs.Filter.{shifted_down}
+use Rattle.stream_filters.specs.Filter.{IsPlain, weight}
 use Rattle.stream_filters.specs.Range.{ranged}
-use Rattle.stream_filters.proofs.Lines.{answer_at-line, IsNarrowBack-recent}
-use Rattle.stream_filters.proofs.Weighted.{weighted-same}
+use Rattle.stream_filters.proofs.Firs.{again-light, joined-again, output_of-fields, output_of-plain}
 use Rattle.stream_filters.proofs.fir.Fir.answer.Goals as goal
 
--- no sample past the limit is left
-pub narrow_output-requires-clause-narrow : goal.narrow_output-requires-clause-narrow
-narrow_output-requires-clause-narrow c =
-    rw c.deref-3.ensures.value
-    (IsNarrowBack-recent c.self.inside.taps.items c.earlier-samples.result.now c.self.inside.form
-    c.self.inside.limit c.self.invariant.are_taps c.self.invariant.short c.self.invariant.light
-    (λ j lt. rw (c.earlier-samples.ensures j, c.deref-2.ensures.value)
-    (c.self.invariant.recent (c.self.inside.form.delay + j) (omega arith))))
+-- the taps for what was put weigh little
+pub output_for-requires-clause-light : goal.output_for-requires-clause-light
+output_for-requires-clause-light c =
+    let w = c.self.inside.weigher in
+    let again = c.self.inside.again.items in
+    let same = joined-again w.taps again w.form c.self.invariant.again in
+    rw c.deref.ensures.value (subst (λ l. weight l ≤ 2 ^ 41) same
+    (again-light (w.taps ++ again) w.form c.self.invariant.are_taps))
 
--- the answer is the output at the last sample of the line
-pub returns-then-self-gt0 : goal.returns-then-self-gt0
-returns-then-self-gt0 c =
-    rw (
-      ← c.self.view_is,
-      answer_at-line c.self.inside.taps.items c.self.inside.form
-          c.self.inside.line.items,
-      ← c.deref.ensures.value,
-      ← c.deref-then-self-gt0.ensures.value,
-    )
-    c.last_output.ensures
+-- the weigher's answer
+pub returns-then-is_plain : goal.returns-then-is_plain
+returns-then-is_plain c =
+    let w = c.self.inside.weigher in
+    let plain : IsPlain w.form = subst IsPlain c.form-form.ensures.form
+    (c.is_plain.ensures.0 c.if-is_plain.true) in
+    rw (← c.self.view_is) (c.answer.ensures ∙ ap ranged (sym
+    (output_of-plain w c.self.inside.again.items c.self.inside.puts.items
+    c.self.invariant.again plain)))
 
+-- the sum of what the weigher gives and of what was put
 pub returns : goal.returns
 returns c =
-    let fits : FitsSigned w64 c.narrow_output.result = search rules in
-    let form = c.self.inside.form in
+    let w = c.self.inside.weigher in
+    let again = c.self.inside.again.items in
+    let puts = c.self.inside.puts.items in
+    let fits : FitsSigned w128 c.output_for.result = search rules in
+    let sum_fits : FitsSigned w128 c.sum.result = search rules in
+    let sum = to_z-of_z w128 _ sum_fits ∙ c.sum.ensures.sum in
     rw (
       ← c.self.view_is,
-      answer_at-line c.self.inside.taps.items c.self.inside.form
-          c.self.inside.line.items,
+      output_of-fields w again puts c.self.invariant.again,
+      ← sum,
+      ← c.deref.ensures.value,
       ← c.deref-2.ensures.value,
-      ← c.deref-3.ensures.value,
+      ← c.form-form.ensures.form,
     )
-    (ap Ok (to_z-of_z w64 _ fits) ∙ (c.narrow_output.ensures
-    ∙ ap (λ z. ranged (shifted_down (z +ℤ form.plus) form.shift))
-    (weighted-same _ _ c.deref-3.result.now (λ j lt. c.earlier-samples.ensures j))))
+    (c.in_range.ensures ∙ ap ranged (to_z-of_z w128 _ fits ∙ c.output_for.ensures))

@@ -3,7 +3,7 @@ use Rattle.std.specs.Prelude.{Result, IsErr, IsOk, is_ok}
 use Rattle.std.proofs.lemmas.List.{length-take, length-take-le, length-drop, take_all, take-append-drop}
 use Rattle.std.proofs.Math.Seq.{take-add}
 use Rattle.stream_filters.specs.FilterFields.{HasStepped}
-use Rattle.stream_filters.proofs.Stepped.{HasStepped-few, HasStepped-none, HasStepped-then, HasStepped-stop}
+use Rattle.stream_filters.proofs.Stepped.{HasStepped-none, HasStepped-then, HasStepped-stop}
 use Rattle.stream_filters.proofs.fir.Fir.steps.Goals as goal
 use Rattle.stream_filters.proofs.fir.Fir.steps.Goals.{After-branch-block, After-from_residual, After-each}
 
@@ -93,8 +93,7 @@ returns-in_err-block-clause-stands c = (ended c).stands
 pub returns-in_err-block-clause-ok : goal.returns-in_err-block-clause-ok
 returns-in_err-block-clause-ok c =
     let here = (goal.at.returns-in_err-block-clause-ok c).After-branch-block in
-    let few = HasStepped-few c.args.self.now c.block.new.self _ c.args.made.now.items
-    c.block.new.made.items (blocked here) in
+    let few = (blocked here).few in
     let many : length (take (c.loop-at.at + 16) c.args.samples.now) ≡ c.loop-at.at + 16 =
     length-take-le (c.loop-at.at + 16) c.args.samples.now (omega (arith, c.loop-at-test.true)) in (
       λ ok. absurd (not_both c.from_residual.result c.from_residual.ensures.0 ok),

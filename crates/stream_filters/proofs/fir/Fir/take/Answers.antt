@@ -1,68 +1,63 @@
-use Rattle.std.proofs.Common.{◌≡◌, ◌≤◌, ◌+◌, ◌-◌, ◌++◌, ◌∷◌, [], ◌⊎◌, inl, inr, length, ap, subst, sym, ◌∙◌, arith, w64}
-use Rattle.std.specs.Prelude.{unsigned_abs}
+use Rattle.std.proofs.Common.{◌≡◌, ◌∷◌, [], ◌++◌, length, w64, sym, ap, subst, ◌∙◌, arith}
+use Rattle.std.specs.Vec.{vec_len}
+use Rattle.std.proofs.lemmas.Bool.Decides.{nat_tests}
 use Rattle.std.proofs.lemmas.Int.{to_z-of_z}
-use Rattle.std.proofs.lemmas.List.{length_push}
-use Rattle.stream_filters.specs.Filter.{reach}
-use Rattle.stream_filters.specs.FilterFields.{window_of}
-use Rattle.stream_filters.proofs.Lines.{AreRecent, AreRecent-next, AreRecent-same, fir_of-push}
+use Rattle.stream_filters.specs.Filter.{StandsFor, after_sample, output_of, put_of, taps_again, with_put, with_sample}
+use Rattle.stream_filters.specs.Weighing.{after_weighed}
+use Rattle.stream_filters.proofs.Firs.{StandsFor-sample, fir_with, length-again, with_put-none, with_sample-fields}
 use Rattle.stream_filters.proofs.fir.Fir.take.Goals as goal
-use Rattle.stream_filters.proofs.fir.Fir.take.Goals.{then-unsigned_abs-self, else-unsigned_abs-self}
+use Rattle.stream_filters.proofs.fir.Fir.take.Goals.{After-take}
 
--- the window stays while room is made
-kept : (c : goal.After-self-1)
-    → window_of (reach c.self.inside.taps.items c.self.inside.form) c.make_room.new.line.items
-    ≡ window_of (reach c.self.inside.taps.items c.self.inside.form) c.self.inside.line.items
-kept c =
-    let n : c.self.inside.form.delay + c.len.result
-    ≡ reach c.self.inside.taps.items c.self.inside.form = omega (arith, c.len.ensures) in
-    subst (λ n. window_of n c.make_room.new.line.items ≡ window_of n c.self.inside.line.items)
-    n c.make_room.ensures.last
+-- the taps for what it put are as many as the form says
+many : (c : After-take)
+    → length (taps_again c.args.self.now.taps c.args.self.now.form) ≡ c.args.self.now.form.again
+many c = rw (← c.self.view_is) (length-again _ c.self.inside.weigher.form c.self.invariant.are_taps)
 
--- and the sample comes behind it
-pushed : (c : goal.After-self-1)
-    → c.push_reserved.new.self.items ≡ c.make_room.new.line.items ++ c.args.x ∷ []
-pushed c =
-    c.push_reserved.ensures.items
-    ∙ ap (λ x. c.make_room.new.line.items ++ x ∷ []) (to_z-of_z w64 c.args.x c.ranges.x)
+-- the weigher took the sample
+taken : (c : After-take)
+    → fir_with c.take.new.self c.self.inside.again.items c.self.inside.puts.items
+    ≡ with_sample c.args.self.now c.args.x
+taken c =
+    let w = c.self.inside.weigher in
+    with_sample-fields w c.take.new.self c.self.inside.again.items c.self.inside.puts.items c.args.x
+    c.self.invariant.again
+    (c.take.ensures.window ∙ ap (after_weighed w) (to_z-of_z w64 c.args.x c.ranges.x))
+    ∙ ap (λ fir. with_sample fir c.args.x) c.self.view_is
 
--- how many more samples it takes until the window holds none past the limit
-next : (c : goal.After-self-1)
-    → ((unsigned_abs c.args.x ≤ c.self.inside.limit)
-    × (c.if-unsigned_abs-self.self ≡ c.self.inside.wide_steps_left - 1))
-    ⊎ (c.if-unsigned_abs-self.self ≡ reach c.self.inside.taps.items c.self.inside.form)
-next c =
-    let size : c.unsigned_abs.result ≡ unsigned_abs c.args.x =
-    c.unsigned_abs.ensures.value ∙ ap unsigned_abs (to_z-of_z w64 c.args.x c.ranges.x) in
-    elim c.if-unsigned_abs-self.branch [
-      | then-unsigned_abs-self w ↦ inr (omega (arith, w.self-is, c.len.ensures))
-      | else-unsigned_abs-self w ↦ inl (
-        omega (arith, w.if-unsigned_abs-self.false, size),
-        omega (
-          arith,
-          w.self-is,
-          w.saturating_sub-self-inside.ensures,
-        ),
-      )
-    ]
+pub returns-then-not-is_empty-clause-window : goal.returns-then-not-is_empty-clause-window
+returns-then-not-is_empty-clause-window c =
+    let fir = fir_with c.take.new.self c.self.inside.again.items c.self.inside.puts.items in
+    let here = (goal.at.returns-then-not-is_empty-clause-window c).After-take in
+    c.put.ensures (output_of fir) c.answer.ensures
+    ∙ ap (λ fir. with_put fir (put_of (output_of fir))) (taken here)
 
-pub invariant_of-self : goal.invariant_of-self
-invariant_of-self c =
-    let n = reach c.self.inside.taps.items c.self.inside.form in
-    let line = c.make_room.new.line.items in
-    let recent : AreRecent c.self.inside.limit n c.self.inside.wide_steps_left line =
-    AreRecent-same _ n _ line c.self.inside.line.items (kept c) c.self.invariant.recent in
-    record {
-      are_taps = c.self.invariant.are_taps;
-      held = omega (arith, c.make_room.ensures.held, c.len.ensures, length_push line c.args.x, ap length (pushed c));
-      room = omega (arith, c.push_reserved.ensures.capacity, c.make_room.ensures.capacity, c.self.invariant.room);
-      short = c.self.invariant.short;
-      light = c.self.invariant.light;
-      recent = subst (AreRecent c.self.inside.limit n c.if-unsigned_abs-self.self) (sym (pushed c))
-          (AreRecent-next _ n _ _ line c.args.x recent (next c));
-    }
+pub returns-then-not-is_empty-clause-stands : goal.returns-then-not-is_empty-clause-stands
+returns-then-not-is_empty-clause-stands c samples stands =
+    let fir = fir_with c.take.new.self c.self.inside.again.items c.self.inside.puts.items in
+    let here = (goal.at.returns-then-not-is_empty-clause-stands c).After-take in
+    subst (λ new. StandsFor new (samples ++ c.args.x ∷ []))
+    (sym (c.put.ensures (output_of fir) c.answer.ensures
+    ∙ ap (λ fir. with_put fir (put_of (output_of fir))) (taken here)))
+    (StandsFor-sample c.args.self.now samples c.args.x stands (many here))
 
-pub returns-clause-window : goal.returns-clause-window
-returns-clause-window c =
-    rw (← c.self.view_is) (fir_of-push c.self.inside.taps.items c.self.inside.form
-    c.self.inside.line.items c.make_room.new.line.items c.push_reserved.new.self.items c.args.x
-    (kept c) (pushed c))
+-- it weighs nothing that it put
+left : (c : goal.Else-not-is_empty)
+    → fir_with c.take.new.self c.self.inside.again.items c.self.inside.puts.items
+    ≡ after_sample c.args.self.now c.args.x
+left c =
+    let here = (goal.at.returns-else-not-is_empty-clause-stands c).After-take in
+    let y = put_of (output_of (with_sample c.args.self.now c.args.x)) in
+    let none : vec_len c.self.inside.again ≡ 0 =
+    grind (arith, nat_tests, c.is_empty.ensures, c.if-not-is_empty.false) in
+    with_put-none c.take.new.self c.self.inside.again.items c.self.inside.puts.items y
+    (omega (arith, c.self.invariant.again, ap (λ form. form.again) c.take.ensures.form, none))
+    ∙ ap (λ fir. with_put fir y) (taken here)
+
+pub returns-else-not-is_empty-clause-window : goal.returns-else-not-is_empty-clause-window
+returns-else-not-is_empty-clause-window c = left c
+
+pub returns-else-not-is_empty-clause-stands : goal.returns-else-not-is_empty-clause-stands
+returns-else-not-is_empty-clause-stands c samples stands =
+    let here = (goal.at.returns-else-not-is_empty-clause-stands c).After-take in
+    subst (λ new. StandsFor new (samples ++ c.args.x ∷ [])) (sym (left c))
+    (StandsFor-sample c.args.self.now samples c.args.x stands (many here))

@@ -3,25 +3,25 @@ use Rattle.std.specs.Prelude.{unsigned_abs}
 use Rattle.std.specs.List.{All, range_with_len}
 use Rattle.stream_filters.specs.Lanes.{output_shown}
 use Rattle.std.proofs.lemmas.List.{length-append}
-use Rattle.stream_filters.specs.Filter.{reach}
-use Rattle.stream_filters.specs.FilterFields.{AreSmallAt, window_of}
+use Rattle.stream_filters.specs.Weighing.{span}
+use Rattle.stream_filters.specs.WeigherFields.{AreSmallAt, window_of}
 use Rattle.stream_filters.proofs.Lines.{AreRecent, AreRecent-same, AreRecent-behind}
-use Rattle.stream_filters.proofs.Stepped.{AreSmallAt-behind, HasStepped-block, shown_is}
+use Rattle.stream_filters.proofs.AtOnce.{AreSmallAt-behind, HasWeighed-block, shown_is}
 use Rattle.stream_filters.proofs.WholeLists.{IsNarrow-shown, shown}
-use Rattle.stream_filters.proofs.fir.Fir.makes_at_once.Goals as goal
-use Rattle.stream_filters.proofs.fir.Fir.makes_at_once.Goals.{After-deref-2}
+use Rattle.stream_filters.proofs.weigher.Weigher.makes_at_once.Goals as goal
+use Rattle.stream_filters.proofs.weigher.Weigher.makes_at_once.Goals.{After-deref-2}
 
 -- the window stays while room is made
-kept : (c : After-deref-2) → window_of (reach c.self.inside.taps.items c.self.inside.form) c.make_room.new.line.items
-    ≡ window_of (reach c.self.inside.taps.items c.self.inside.form) c.self.inside.line.items
+kept : (c : After-deref-2) → window_of (span c.self.inside.taps.items c.self.inside.form) c.make_room.new.line.items
+    ≡ window_of (span c.self.inside.taps.items c.self.inside.form) c.self.inside.line.items
 kept c =
     let count : c.self.inside.form.delay + c.len.result
-    ≡ reach c.self.inside.taps.items c.self.inside.form = omega (arith, c.len.ensures) in
+    ≡ span c.self.inside.taps.items c.self.inside.form = omega (arith, c.len.ensures) in
     subst (λ n. window_of n c.make_room.new.line.items ≡ window_of n c.self.inside.line.items)
     count c.make_room.ensures.last
 
 held : (c : After-deref-2)
-    → reach c.self.inside.taps.items c.self.inside.form ≤ length c.make_room.new.line.items
+    → span c.self.inside.taps.items c.self.inside.form ≤ length c.make_room.new.line.items
 held c = omega (arith, c.len.ensures, c.make_room.ensures.held)
 
 -- the samples are within the limit
@@ -31,10 +31,10 @@ within c = c.are_within.ensures.0 c.if-not-are_within.false
 
 -- and so are the last ones of the line
 recent : (c : After-deref-2) → AreRecent c.self.inside.limit
-    (reach c.self.inside.taps.items c.self.inside.form) 0
+    (span c.self.inside.taps.items c.self.inside.form) 0
     c.make_room.new.line.items
 recent c =
-    AreRecent-same _ (reach c.self.inside.taps.items c.self.inside.form) 0 c.make_room.new.line.items
+    AreRecent-same _ (span c.self.inside.taps.items c.self.inside.form) 0 c.make_room.new.line.items
     c.self.inside.line.items (kept c)
     (λ j lt. c.self.invariant.recent j (omega (arith, c.if-self-gt0.false)))
 
@@ -62,22 +62,22 @@ pub block_outputs-outputs-requires-clause-narrow :
 block_outputs-outputs-requires-clause-narrow c =
     let here = (goal.at.block_outputs-outputs-requires-clause-narrow c).After-deref-2 in
     let line = c.make_room.new.line.items in
-    let some = c.self.invariant.are_taps.some in
+    let some = c.self.invariant.are_ahead.some in
     rw (c.deref-2.ensures.value, read here) (IsNarrow-shown c.self.inside.taps.items
     (line ++ c.args.samples.now) c.self.inside.form (length line - c.self.inside.form.delay)
-    c.self.invariant.are_taps (small here) (omega (arith, held here, some))
+    c.self.invariant.are_ahead (small here) (omega (arith, held here, some))
     (omega (arith, length-append line c.args.samples.now, c.requires.many, held here)))
 
 pub invariant_of-self : goal.invariant_of-self
 invariant_of-self c =
     let here = (goal.at.invariant_of-self c).After-deref-2 in
-    let n = reach c.self.inside.taps.items c.self.inside.form in
+    let n = span c.self.inside.taps.items c.self.inside.form in
     let line = c.make_room.new.line.items in
     let all = line ++ c.args.samples.now in
     let long : length all ≡ length line + 16 =
     length-append line c.args.samples.now ∙ ap (λ m. length line + m) c.requires.many in
     record {
-      are_taps = c.self.invariant.are_taps;
+      are_ahead = c.self.invariant.are_ahead;
       held = omega (arith, held here, long, ap length c.put_all.ensures.items);
       room = omega (
         arith,
@@ -93,9 +93,9 @@ invariant_of-self c =
           (held here) j (omega arith));
     }
 
-pub returns-clause-steps : goal.returns-clause-steps
-returns-clause-steps c =
-    let here = (goal.at.returns-clause-steps c).After-deref-2 in
+pub returns-clause-all : goal.returns-clause-all
+returns-clause-all c =
+    let here = (goal.at.returns-clause-all c).After-deref-2 in
     let taps = c.self.inside.taps.items in
     let line = c.make_room.new.line.items in
     let form = c.self.inside.form in
@@ -109,6 +109,6 @@ returns-clause-steps c =
     c.deref-2.ensures.value
     ∙ ap (λ l. map (output_shown taps form l) (range_with_len 0 16)) (read here)) in
     λ yes. rw (← c.self.view_is, c.put_all.ensures.items, c.put_all-2.ensures.items)
-    (HasStepped-block taps line c.self.inside.line.items c.args.samples.now
-    c.block_outputs-outputs.result c.args.made.now.items form c.self.invariant.are_taps
+    (HasWeighed-block taps line c.self.inside.line.items c.args.samples.now
+    c.block_outputs-outputs.result c.args.made.now.items form c.self.invariant.are_ahead
     (small here) (held here) c.requires.many (kept here) outputs_are)

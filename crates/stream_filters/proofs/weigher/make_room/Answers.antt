@@ -1,8 +1,8 @@
 use Rattle.std.proofs.Common.{◌-◌, ◌∙◌, ap, take, arith}
 use Rattle.std.specs.Vec.{vec_len}
-use Rattle.stream_filters.specs.FilterFields.{window_of}
+use Rattle.stream_filters.specs.WeigherFields.{window_of}
 use Rattle.stream_filters.proofs.Lines.{window_of-moved}
-use Rattle.stream_filters.proofs.fir.make_room.Goals as goal
+use Rattle.stream_filters.proofs.weigher.make_room.Goals as goal
 
 -- the last samples are moved to the front
 pub returns-then-capacity-len-clause-last : goal.returns-then-capacity-len-clause-last

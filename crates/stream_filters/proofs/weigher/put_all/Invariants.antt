@@ -1,6 +1,6 @@
 use Rattle.std.proofs.Common.{◌≡◌, ◌++◌, take}
 use Rattle.std.specs.Prelude.{vec_capacity}
-use Rattle.stream_filters.proofs.fir.put_all.Given as goal
+use Rattle.stream_filters.proofs.weigher.put_all.Given as goal
 
 -- the values before this one are put
 abbrev pub invariant-loop-value : goal.invariant-loop-value
