@@ -17,7 +17,7 @@ use Rattle.stream_filters.proofs.Outputs.{alone-after}
 use Rattle.stream_filters.proofs.Weighted.{weighted-same}
 use Rattle.phase_accum.proofs.Parts.{AreSends-append}
 use Rattle.stream_filters.proofs.Made.{ranged-ok, ranged-err}
-use Rattle.phase_c.specs.Filtered.{AreOfFilter, Filters, FiltersAll, FiltersTo, ShowsLast, first_outputs, output_behind}
+use Rattle.phase_c.specs.Filtered.{AreOfFilter, Filters, FiltersAll, FiltersTo, ShowsLast, first_outputs, output_in_block}
 
 -- ---- one sample after the other
 
@@ -31,9 +31,9 @@ one_more before samples i d less =
 -- and one more output
 outputs_more : (taps : List ℤ) (form : Form) (before block : List ℤ) (n : ℕ)
     → first_outputs taps form before block (n + 1)
-    ≡ first_outputs taps form before block n ++ output_behind taps form before block n ∷ []
+    ≡ first_outputs taps form before block n ++ output_in_block taps form before block n ∷ []
 outputs_more taps form before block n =
-    map-range_with_len_more (output_behind taps form before block) 0 n n (omega arith)
+    map-range_with_len_more (output_in_block taps form before block) 0 n n (omega arith)
 
 -- a value that was answered is the output, and in range
 answered : (z v : ℤ) → ranged z ≡ Ok v → (v ≡ z) × IsSend v
@@ -65,7 +65,7 @@ module _ (old now : FirState) (before block : List ℤ) (n : ℕ) (less : n < le
     (told : answer ≡ ranged (output_after now.taps now.form ((before ++ take n block) ++ x ∷ [])))
   where
     abbrev output : ℤ
-    output = output_behind old.taps old.form before block n
+    output = output_in_block old.taps old.form before block n
 
     answer_is : answer ≡ ranged output
     answer_is =
@@ -100,7 +100,7 @@ same_behind xs ys n d same =
 -- one more output was written
 pub written_more : (taps : List ℤ) (form : Form) (before block out : List ℤ) (n : ℕ) (v : ℤ)
     → n < length out → take n out ≡ first_outputs taps form before block n
-    → v ≡ output_behind taps form before block n
+    → v ≡ output_in_block taps form before block n
     → take (n + 1) (set out n v) ≡ first_outputs taps form before block (n + 1)
 written_more taps form before block out n v room written is =
     take_more_set out n v room
@@ -153,7 +153,7 @@ shows_behind m xs ys block same j less = by (nat_lt j (length block)) refl
 
 -- an output of a filter that weighs nothing that it put
 last_output : (taps : List ℤ) (form : Form) (before block : List ℤ) (n : ℕ) → form.again ≡ 0
-    → n < length block → output_behind taps form before block n ≡ with_single form.single
+    → n < length block → output_in_block taps form before block n ≡ with_single form.single
     (shifted_down (summed (back (before ++ take (n + 1) block)) taps form) form.shift)
 last_output taps form before block n none less =
     let more = one_more before block n (pos 0) less in
@@ -164,7 +164,7 @@ last_output taps form before block n none less =
 -- the output behind a state is the one behind the samples that it shows
 output_same : (taps : List ℤ) (form : Form) (state before block : List ℤ) (n : ℕ)
     → form.again ≡ 0 → length state + 1 ≡ reach taps form → ShowsLast state before → n < length block
-    → output_behind taps form state block n ≡ output_behind taps form before block n
+    → output_in_block taps form state block n ≡ output_in_block taps form before block n
 output_same taps form state before block n none long shows less =
     let some : length (take (n + 1) block) ≡ n + 1 =
     length-take-le (n + 1) block (omega (arith, less)) in
@@ -180,7 +180,7 @@ outputs_same : (taps : List ℤ) (form : Form) (state before block : List ℤ) (
     → form.again ≡ 0 → length state + 1 ≡ reach taps form → ShowsLast state before → n ≤ length block
     → first_outputs taps form state block n ≡ first_outputs taps form before block n
 outputs_same taps form state before block n none long shows few =
-    map-same (output_behind taps form state block) (output_behind taps form before block) 0 n
+    map-same (output_in_block taps form state block) (output_in_block taps form before block) 0 n
     (λ k less. output_same taps form state before block k none long shows (omega (arith, few, less)))
 
 -- the last of these samples show all of them
@@ -229,11 +229,11 @@ outputs_are taps other form moved state before block n same unmoved none long sh
 -- an output behind the state that is out of range is so behind what the state shows
 too_big_is : (taps other : List ℤ) (form moved : Form) (state before block : List ℤ) (n : ℕ)
     → other ≡ taps → moved ≡ form → form.again ≡ 0 → length state + 1 ≡ reach taps form → ShowsLast state before
-    → n < length block → ¬ (IsSend (output_behind other moved state block n))
-    → ¬ (IsSend (output_behind taps form before block n))
+    → n < length block → ¬ (IsSend (output_in_block other moved state block n))
+    → ¬ (IsSend (output_in_block taps form before block n))
 too_big_is taps other form moved state before block n same unmoved none long shows less big is =
-    big (subst IsSend (sym (ap (λ ts. output_behind ts moved state block n) same
-    ∙ (ap (λ k. output_behind taps k state block n) unmoved
+    big (subst IsSend (sym (ap (λ ts. output_in_block ts moved state block n) same
+    ∙ (ap (λ k. output_in_block taps k state block n) unmoved
     ∙ output_same taps form state before block n none long shows less))) is)
 
 -- ---- a filter that has taken the samples of a state
@@ -262,7 +262,7 @@ module _ (taps : List ℤ) (form : Form) (state block old new : List ℤ) (count
     -- and where it met a value out of range, it was the first
     pub filters_to : count < length block
         → ((before : List ℤ) → StandsFor fir before → count < length block
-        → ¬ (IsSend (output_behind fir.taps fir.form before block count)))
+        → ¬ (IsSend (output_in_block fir.taps fir.form before block count)))
         → FiltersTo taps form state block old new count
     filters_to less too_big = record {
       filters = filters_are;

@@ -10,13 +10,13 @@ use Rattle.phase_c.specs.declared.filter.FilterRefusal.TheVariants as refusal
 -- ---- outputs
 
 -- the output at sample number n of a block, behind the samples before it; its range is not checked
-abbrev pub output_behind : List ℤ → Form → List ℤ → List ℤ → ℕ → ℤ
-output_behind taps form before block n = output_after taps form (before ++ take (n + 1) block)
+abbrev pub output_in_block : List ℤ → Form → List ℤ → List ℤ → ℕ → ℤ
+output_in_block taps form before block n = output_after taps form (before ++ take (n + 1) block)
 
 -- the outputs at the first samples of a block
 abbrev pub first_outputs : List ℤ → Form → List ℤ → List ℤ → ℕ → List ℤ
 first_outputs taps form before block n =
-    map (output_behind taps form before block) (range_with_len 0 n)
+    map (output_in_block taps form before block) (range_with_len 0 n)
 
 -- a state of as many samples as a filter looks back to, less one, shows the samples so far: it has
 -- the last ones, and 0 before the first
@@ -57,7 +57,7 @@ pub record FiltersTo (taps : List ℤ) (form : Form) (state block old new : List
   pub filters : Filters taps form state block old new done
   pub less : done < length block
   pub too_big : (before : List ℤ) → ShowsLast state before
-      → ¬ (IsSend (output_behind taps form before block done))
+      → ¬ (IsSend (output_in_block taps form before block done))
 
 -- ---- refusals
 

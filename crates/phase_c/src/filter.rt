@@ -2,7 +2,7 @@
 ghost use Rattle.std.specs.Prelude.{◌≡◌, ◌≤◌, ◌<◌, ◌+◌, ◌++◌, ℤ, List, length, take, drop, OnOk, OnErr, IfOk, IfErr};
 ghost use Rattle.phase_accum.specs.Sends.{AreSends, IsSend};
 ghost use Rattle.stream_filters.specs.Filter.{StandsFor, by_shift};
-ghost use Rattle.phase_c.specs.Filtered.{AreOfFilter, FiltersAll, RefusesBlock, filter_status_of, first_outputs, output_behind};
+ghost use Rattle.phase_c.specs.Filtered.{AreOfFilter, FiltersAll, RefusesBlock, filter_status_of, first_outputs, output_in_block};
 
 use std::alloc::Global;
 use stream_filters::{Fir, FirFault};
@@ -58,7 +58,7 @@ fn steps(fir: &mut Fir, block: &[i64], out: &mut [i64]) -> usize
         → AreSends (take result out.new) }
     ensures behind { drop result out.new ≡ drop result out.old }
     ensures too_big { (before : List ℤ) → StandsFor fir.old before → result < length block.now
-        → ¬ (IsSend (output_behind fir.old.taps fir.old.form before block.now result)) }
+        → ¬ (IsSend (output_in_block fir.old.taps fir.old.form before block.now result)) }
 {
     for n in 0..block.len() {
         match fir.step(block[n]) {
@@ -99,7 +99,8 @@ pub(crate) fn filter_behind(
     ensures of_filter { OnOk result (AreOfFilter taps.now (by_shift shift) state.now) }
     ensures room { OnOk result (samples ≤ room) }
     ensures refused { (block old : List ℤ) → length block ≡ samples → length old ≡ room
-        → IfErr result (λ why. RefusesBlock taps.now (by_shift shift) state.now block old old 0 why) }
+        → IfErr result (λ why.
+        RefusesBlock taps.now (by_shift shift) state.now block old old 0 why) }
 {
     let made = match Fir::new(alloc, taps, shift) {
         Ok(fir) => Some(fir),

@@ -2,7 +2,7 @@
 ghost use Rattle.std.specs.Prelude.{◌≡◌, ◌≤◌, ◌<◌, ℤ, List, length, take, drop, OnOk, OnErr, IfErr};
 ghost use Rattle.phase_accum.specs.Sends.{AreSends, IsSend};
 ghost use Rattle.stream_filters.specs.Filter.{StandsFor, by_shift};
-ghost use Rattle.phase_c.specs.Filtered.{FiltersAll, RefusesBlock, first_outputs, output_behind};
+ghost use Rattle.phase_c.specs.Filtered.{FiltersAll, RefusesBlock, first_outputs, output_in_block};
 
 use crate::filter::{FilterRefusal, filter_behind, keep};
 use std::alloc::Global;
@@ -18,7 +18,7 @@ fn steps_in_place(fir: &mut Fir, block: &mut [i64]) -> usize
         → AreSends (take result block.new) }
     ensures behind { drop result block.new ≡ drop result block.old }
     ensures too_big { (before : List ℤ) → StandsFor fir.old before → result < length block.old
-        → ¬ (IsSend (output_behind fir.old.taps fir.old.form before block.old result)) }
+        → ¬ (IsSend (output_in_block fir.old.taps fir.old.form before block.old result)) }
 {
     for n in 0..block.len() {
         match fir.step(block[n]) {

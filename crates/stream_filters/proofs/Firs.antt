@@ -8,12 +8,12 @@ use Rattle.std.proofs.lemmas.List.{get_or-drop, get_or-take, length-append, leng
 use Rattle.std.proofs.lemmas.List.Sums.{sum_by-le}
 use Rattle.stream_filters.specs.declared.fir.TheConstants.{TAP_MAX}
 use Rattle.stream_filters.specs.declared.form.Form.{Form}
-use Rattle.stream_filters.specs.Filter.{AreTaps, FirState, IsPlain, StandsFor, after_sample, at_place, back, output_after, output_of, outputs_of_block, put_of, puts_of, reach, shifted_down, summed, taps_again, taps_ahead, weight, weighted, with_put, with_sample, with_single}
+use Rattle.stream_filters.specs.Filter.{AreTaps, FirState, IsPlainForm, StandsFor, after_sample, at_place, back, output_after, output_of, outputs_of_block, put_of, puts_of, reach, shifted_down, summed, taps_again, taps_ahead, weight, weighted, with_put, with_sample, with_single}
 use Rattle.stream_filters.specs.FilterFields.{HasStepped}
 use Rattle.stream_filters.specs.Range.{before_out_of_range, ranged}
 use Rattle.stream_filters.specs.declared.fault.TooBigValue.{TooBigValue}
 use Rattle.stream_filters.specs.WeigherFields.{HasWeighed, window_of}
-use Rattle.stream_filters.specs.Weighing.{AreAhead, Shows, WeigherState, after_weighed, span, weighed_behind}
+use Rattle.stream_filters.specs.Weighing.{AreAhead, ShowsSamples, WeigherState, after_weighed, span, weighed_behind}
 use Rattle.stream_filters.proofs.Lines.{window_of-shows}
 use Rattle.stream_filters.proofs.Outputs.{output_after-push, plain-behind, plain-seen, puts_of-push}
 use Rattle.stream_filters.proofs.Weighted.{weighted-same}
@@ -119,7 +119,7 @@ output_of-fields weigher again puts many =
 
 -- a plain one comes to what its weigher does
 pub output_of-plain : (weigher : WeigherState) (again puts : List ℤ)
-    → length again ≡ weigher.form.again → IsPlain weigher.form
+    → length again ≡ weigher.form.again → IsPlainForm weigher.form
     → output_of (fir_with weigher again puts)
     ≡ shifted_down (summed (at_place weigher.window) weigher.taps weigher.form) weigher.form.shift
 output_of-plain weigher again puts many plain =
@@ -209,13 +209,13 @@ with_put-none weigher again puts y gone =
 -- ---- plain filters
 
 module _ (weigher : WeigherState) (again : List ℤ) (many : length again ≡ weigher.form.again)
-    (plain : IsPlain weigher.form)
+    (plain : IsPlainForm weigher.form)
   where
     none : again ≡ []
     none = no_items again (many ∙ plain.again_none)
 
     -- their windows show what those of the weigher do
-    pub StandsFor-shows : (puts samples : List ℤ) → Shows weigher samples
+    pub StandsFor-shows : (puts samples : List ℤ) → ShowsSamples weigher samples
         → StandsFor (fir_with weigher again puts) samples
     StandsFor-shows puts samples has = record {
       shows = λ j lt. has.shows j (subst (λ n. j < n) (joined-reach weigher.taps again weigher.form many) lt);
@@ -223,7 +223,7 @@ module _ (weigher : WeigherState) (again : List ℤ) (many : length again ≡ we
     }
 
     pub Shows-stands : (puts samples : List ℤ) → StandsFor (fir_with weigher again puts) samples
-        → Shows weigher samples
+        → ShowsSamples weigher samples
     Shows-stands puts samples stands = record {
       shows = λ j lt. stands.shows j
           (subst (λ n. j < n) (sym (joined-reach weigher.taps again weigher.form many)) lt);
@@ -240,7 +240,7 @@ module _ (weigher : WeigherState) (again : List ℤ) (many : length again ≡ we
 
 -- what their weigher did at once
 pub HasStepped-weighed : (old new : WeigherState) (again puts xs before after : List ℤ)
-    → length again ≡ old.form.again → IsPlain old.form → HasWeighed old new xs before after
+    → length again ≡ old.form.again → IsPlainForm old.form → HasWeighed old new xs before after
     → HasStepped (fir_with old again puts) (fir_with new again puts) xs before after
 HasStepped-weighed old new again puts xs before after many plain weighed = record {
   made = λ taken stands.
@@ -259,5 +259,5 @@ HasStepped-weighed old new again puts xs before after many plain weighed = recor
     many_new : length again ≡ new.form.again
     many_new = many ∙ ap (λ form. form.again) (sym weighed.form)
 
-    plain_new : IsPlain new.form
-    plain_new = subst IsPlain (sym weighed.form) plain
+    plain_new : IsPlainForm new.form
+    plain_new = subst IsPlainForm (sym weighed.form) plain

@@ -6,7 +6,7 @@ use Rattle.std.proofs.lemmas.Bool.{cases_lt}
 use Rattle.std.proofs.lemmas.List.{get_or-take, get_or_append_left, get_or-append-add, get_or-replicate, get_or-reverse, get_or_past, length-replicate, length-take, length_push, length-drop, length-reverse, reverse-append, take_all, take-append-drop, take-append-le}
 use Rattle.std.proofs.lemmas.List.Elements.{All-weaker}
 use Rattle.stream_filters.specs.Sums.{at_place, back, shifted_down, weight, summed}
-use Rattle.stream_filters.specs.Weighing.{AreAhead, WeigherState, Shows, after_weighed, weighed_after, span}
+use Rattle.stream_filters.specs.Weighing.{AreAhead, WeigherState, ShowsSamples, after_weighed, weighed_after, span}
 use Rattle.stream_filters.specs.declared.form.Form.{Form}
 use Rattle.stream_filters.specs.WeigherFields.{AreSmall, IsNarrowBack, answer_at, window_of}
 use Rattle.stream_filters.specs.Range.{ranged}
@@ -141,13 +141,13 @@ Agree-append n line other (x ∷ xs) agree =
 -- a line agrees with the samples that its filter stands for
 pub Agree-stands : (taps : List ℤ) (form : Form) (old line taken : List ℤ)
     → window_of (span taps form) line ≡ window_of (span taps form) old
-    → Shows (fir_of taps form old) taken → Agree (span taps form) line taken
+    → ShowsSamples (fir_of taps form old) taken → Agree (span taps form) line taken
 Agree-stands taps form old line taken same has j lt =
     window_of-same (span taps form) line old same j lt
     ∙ (sym (window_of-shows (span taps form) old j lt) ∙ has.shows j lt)
 
 pub Shows-agree : (taps : List ℤ) (form : Form) (line taken : List ℤ)
-    → Agree (span taps form) line taken → Shows (fir_of taps form line) taken
+    → Agree (span taps form) line taken → ShowsSamples (fir_of taps form line) taken
 Shows-agree taps form line taken agree = record {
   shows = λ j lt. window_of-shows (span taps form) line j lt ∙ agree j lt;
 }

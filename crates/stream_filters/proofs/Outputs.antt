@@ -9,7 +9,7 @@ use Rattle.std.proofs.lemmas.Nat.{pow_pos}
 use Rattle.std.proofs.lemmas.List.{append-nil, append_assoc, same_lists, take_all, take-append-drop, length-reverse, length-take, length-take-le, get_or-reverse, get_or-take, get_or_past, get_or_default, get_or_append_left, reverse-append, map-append}
 use Rattle.std.proofs.lemmas.List.FromFn.{length-map-range_with_len, get_or-map-range_with_len}
 use Rattle.stream_filters.specs.declared.form.Form.{Form}
-use Rattle.stream_filters.specs.Filter.{IsPlain, back, output_after, output_behind, output_seen, outputs, outputs_behind, outputs_of_block, put_of, puts_of, shifted_down, summed, taps_again, taps_ahead, weighted, with_single}
+use Rattle.stream_filters.specs.Filter.{IsPlainForm, back, output_after, output_behind, output_seen, outputs, outputs_behind, outputs_of_block, put_of, puts_of, shifted_down, summed, taps_again, taps_ahead, weighted, with_single}
 use Rattle.stream_filters.specs.Weighing.{weighed_after, weighed_behind}
 
 -- two functions that agree below n give the same n values
@@ -199,13 +199,13 @@ alone-after taps form samples x none =
     output_after-push taps form samples x
     ∙ alone-seen taps form (back (samples ++ x ∷ [])) (back (puts_of taps form samples)) none
 
-pub plain-seen : (taps : List ℤ) (form : Form) (samples puts : ℕ → ℤ) → IsPlain form
+pub plain-seen : (taps : List ℤ) (form : Form) (samples puts : ℕ → ℤ) → IsPlainForm form
     → output_seen taps form samples puts ≡ shifted_down (summed samples taps form) form.shift
 plain-seen taps form samples puts plain =
     alone-seen taps form samples puts plain.again_none
     ∙ ap (λ s. with_single s (shifted_down (summed samples taps form) form.shift)) plain.single_none
 
-pub plain-behind : (taps : List ℤ) (form : Form) (taken puts xs : List ℤ) → IsPlain form
+pub plain-behind : (taps : List ℤ) (form : Form) (taken puts xs : List ℤ) → IsPlainForm form
     → outputs_behind taps form taken puts xs ≡ weighed_behind taps form taken xs
 plain-behind taps form taken puts [] plain = refl
 plain-behind taps form taken puts (x ∷ xs) plain =

@@ -4,7 +4,7 @@ use Rattle.std.specs.List.{range_with_len}
 use Rattle.std.proofs.lemmas.List.{append-nil, append_assoc, take_all, take-append-le, length_push}
 use Rattle.std.proofs.lemmas.List.FromFn.{length-map-range_with_len, get_or-map-range_with_len, map-range_with_len_more}
 use Rattle.stream_filters.specs.declared.form.Form.{Form}
-use Rattle.stream_filters.specs.Filter.{IsPlain, outputs}
+use Rattle.stream_filters.specs.Filter.{IsPlainForm, outputs}
 use Rattle.stream_filters.specs.Weighing.{weighed, weighed_after, weighed_at, weighed_behind}
 use Rattle.stream_filters.proofs.Outputs.{map-range_with_len_same, plain-behind}
 
@@ -61,7 +61,7 @@ length-weighed_behind taps form taken (x ∷ xs) =
     ap suc (length-weighed_behind taps form (taken ++ x ∷ []) xs)
 
 -- the outputs of a plain filter
-pub plain-list : (taps : List ℤ) (form : Form) (samples : List ℤ) → IsPlain form
+pub plain-list : (taps : List ℤ) (form : Form) (samples : List ℤ) → IsPlainForm form
     → weighed taps form samples ≡ outputs taps form samples
 plain-list taps form samples plain =
     weighed-block taps form [] samples ∙ sym (plain-behind taps form [] [] samples plain)

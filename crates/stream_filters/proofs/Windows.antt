@@ -4,7 +4,7 @@ use Rattle.std.specs.Prelude.{unsigned_abs}
 use Rattle.std.proofs.lemmas.List.{get_or-take}
 use Rattle.std.proofs.lemmas.List.Sums.{sum_by-le}
 use Rattle.stream_filters.specs.Sums.{summed, at_place, back, weight, shifted_down}
-use Rattle.stream_filters.specs.Weighing.{span, weighed_after, AreAhead, Shows, WeigherState, after_weighed}
+use Rattle.stream_filters.specs.Weighing.{span, weighed_after, AreAhead, ShowsSamples, WeigherState, after_weighed}
 use Rattle.stream_filters.specs.WeigherFields.{answer_at}
 use Rattle.stream_filters.specs.declared.form.Form.{Form}
 use Rattle.stream_filters.specs.Range.{ranged}
@@ -19,7 +19,7 @@ weight-small taps form are =
     omega arith
 
 -- a window that stands for the samples gives their sum
-pub summed-Shows : (fir : WeigherState) (samples : List ℤ) → Shows fir samples
+pub summed-Shows : (fir : WeigherState) (samples : List ℤ) → ShowsSamples fir samples
     → summed (at_place fir.window) fir.taps fir.form ≡ summed (back samples) fir.taps fir.form
 summed-Shows fir samples stands =
     ap (λ z. z +ℤ fir.form.plus) (weighted-same _ _ fir.taps (λ j lt.
@@ -33,15 +33,15 @@ shows-push n window samples x shows (suc j) lt =
     let lt_before : j < n = omega arith in
     shows j lt_before ∙ sym (back-suc samples x j)
 
-pub Shows-push : (fir : WeigherState) (samples : List ℤ) (x : ℤ) → Shows fir samples
-    → Shows (after_weighed fir x) (samples ++ x ∷ [])
+pub Shows-push : (fir : WeigherState) (samples : List ℤ) (x : ℤ) → ShowsSamples fir samples
+    → ShowsSamples (after_weighed fir x) (samples ++ x ∷ [])
 Shows-push fir samples x stands = record {
   shows = λ j lt. get_or-take (span fir.taps fir.form) (x ∷ fir.window) j (pos 0) lt
       ∙ shows-push (span fir.taps fir.form) fir.window samples x stands.shows j lt;
 }
 
 -- what the window then gives is the filter's output
-pub answer_at-push : (fir : WeigherState) (samples : List ℤ) (x : ℤ) → Shows fir samples
+pub answer_at-push : (fir : WeigherState) (samples : List ℤ) (x : ℤ) → ShowsSamples fir samples
     → answer_at fir.taps fir.form (after_weighed fir x).window
     ≡ ranged (weighed_after fir.taps fir.form (samples ++ x ∷ []))
 answer_at-push fir samples x stands =

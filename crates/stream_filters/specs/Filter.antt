@@ -17,7 +17,7 @@ abbrev pub by_shift : ℕ → Form
 by_shift shift = record no_form { shift = shift }
 
 -- a filter that looks at samples alone, and applies no single
-pub record IsPlain (form : Form) : Type 0 where
+pub record IsPlainForm (form : Form) : Type 0 where
   pub again_none : form.again ≡ 0
   pub single_none : form.single ≡ None
 
@@ -101,8 +101,8 @@ with_put fir y = record fir { puts = take fir.form.again (y ∷ fir.puts) }
 abbrev pub after_sample : FirState → ℤ → FirState
 after_sample fir x = with_put (with_sample fir x) (put_of (output_of (with_sample fir x)))
 
--- the windows stand for these samples: they show the last ones and what was put at them, and 0 before
--- the first
+-- the windows stand for these samples: they show the last ones and what was put at them, and 0
+-- before the first
 pub record StandsFor (fir : FirState) (samples : List ℤ) : Type 0 where
   pub shows : (j : ℕ) → j < reach fir.taps fir.form → at_place fir.window j ≡ back samples j
   pub puts : (j : ℕ) → j < fir.form.again

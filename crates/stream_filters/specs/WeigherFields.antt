@@ -2,7 +2,7 @@
 use Rattle.std.specs.Prelude.{◌≡◌, ◌+◌, ◌-◌, ◌*◌, ◌^◌, ◌<◌, ◌≤◌, ◌++◌, unsigned_abs, ℕ, ℤ, pos, List, length, take, reverse, get_or, vec_capacity, Result}
 use Rattle.std.specs.List.{All}
 use Rattle.stream_filters.specs.Sums.{at_place, back, shifted_down, summed, weight}
-use Rattle.stream_filters.specs.Weighing.{AreAhead, Shows, WeigherState, span, weighed_behind}
+use Rattle.stream_filters.specs.Weighing.{AreAhead, ShowsSamples, WeigherState, span, weighed_behind}
 use Rattle.stream_filters.specs.Range.{ranged, before_out_of_range}
 use Rattle.stream_filters.specs.declared.fault.TooBigValue.{TooBigValue}
 use Rattle.stream_filters.specs.declared.form.Form.{Form}
@@ -51,13 +51,13 @@ pub record IsWeigher (f : Inside) : Type 0 where
   pub recent : (j : ℕ) → j + f.wide_steps_left < span f.taps.items f.form
       → unsigned_abs (back f.line.items j) ≤ f.limit
 
--- the weigher has taken all of these samples, and their numbers, which are in range, were put behind
--- the others
+-- the weigher has taken all of these samples, and their numbers, which are in range, were put
+-- behind the others
 pub record HasWeighed (old new : WeigherState) (samples before after : List ℤ) : Type 0 where
-  pub made : (taken : List ℤ) → Shows old taken
+  pub made : (taken : List ℤ) → ShowsSamples old taken
       → after ≡ before ++ before_out_of_range (weighed_behind old.taps old.form taken samples)
   pub all : length after ≡ length before + length samples
-  pub shows : (taken : List ℤ) → Shows old taken → Shows new (taken ++ samples)
+  pub shows : (taken : List ℤ) → ShowsSamples old taken → ShowsSamples new (taken ++ samples)
   pub taps : new.taps ≡ old.taps
   pub form : new.form ≡ old.form
 

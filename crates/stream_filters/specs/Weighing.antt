@@ -40,7 +40,7 @@ after_weighed weigher x =
     record weigher { window = take (span weigher.taps weigher.form) (x ∷ weigher.window) }
 
 -- the window shows the last of these samples, and 0 before the first
-pub record Shows (weigher : WeigherState) (samples : List ℤ) : Type 0 where
+pub record ShowsSamples (weigher : WeigherState) (samples : List ℤ) : Type 0 where
   pub shows : (j : ℕ) → j < span weigher.taps weigher.form
       → at_place weigher.window j ≡ back samples j
 

@@ -1,6 +1,6 @@
 //! The form of a filter: all of it but its taps.
 ghost use Rattle.std.specs.Prelude.{◌↔◌, IsTrue};
-ghost use Rattle.stream_filters.specs.Filter.{IsPlain};
+ghost use Rattle.stream_filters.specs.Filter.{IsPlainForm};
 
 use phase_accum::Single;
 
@@ -25,7 +25,7 @@ pub struct Form {
 
 /// Whether a filter of this form looks at samples alone, and applies no single.
 pub(crate) fn is_plain(form: &Form) -> bool
-    ensures { IsTrue result ↔ IsPlain form.now }
+    ensures { IsTrue result ↔ IsPlainForm form.now }
 {
     form.again == 0 && form.single.is_none()
 }

@@ -2,15 +2,15 @@
 ghost use Rattle.std.specs.Prelude.{◌≡◌, ℕ, ◌+◌, ◌-◌, ◌^◌, ◌<◌, ◌≤◌, List, [], ◌∷◌, ◌++◌, length, take, get_or, ℤ, pos, neg_ℤ, ◌+ℤ◌, ◌*ℤ◌, ◌≤ℤ◌, ◌<ℤ◌};
 ghost use Rattle.stream_filters.specs.declared.form.Form.{Form};
 ghost use Rattle.stream_filters.specs.declared.range.TheConstants.{VALUE_MAX, VALUE_MIN};
-ghost use Rattle.stream_filters.specs.Filter.{IsPlain, back, output_after, outputs, outputs_of_block, shifted_down};
+ghost use Rattle.stream_filters.specs.Filter.{IsPlainForm, back, output_after, outputs, outputs_of_block, shifted_down};
 ghost use Rattle.stream_filters.specs.Weighing.{weighed, weighed_behind};
 ghost use mathlib.Core.List.{IsPrefix};
 
 use crate::fir::{AGAIN_MAX, DELAY_MAX, FEW_TAPS_MAX, PLUS_MAX, SHIFT_MAX, TAP_MAX, TAPS_MAX};
 
-/// The limits of filters and of values, as numbers: taps for samples,
-/// taps for what was put, taps of a filter by its shift alone, a tap's magnitude, a shift in bits, the
-/// magnitude of what is added, a delay in samples, and the least and the greatest value.
+/// The limits of filters and of values, as numbers: taps for samples, taps for what was put, taps of
+/// a filter by its shift alone, a tap's magnitude, a shift in bits, the magnitude of what is added, a
+/// delay in samples, and the least and the greatest value.
 pub fn limits_are()
     ensures taps { TAPS_MAX ≡ 1024 }
     ensures again { AGAIN_MAX ≡ 64 }
@@ -40,8 +40,8 @@ pub fn outputs_entries()
         → length (outputs taps form samples) ≡ length samples }
 {}
 
-/// More samples change no output that is there, and what comes behind hangs on no more than what the
-/// filter has taken and put.
+/// More samples change no output that is there, and what comes behind hangs on no more than what
+/// the filter has taken and put.
 pub fn outputs_go_on()
     ensures behind { (taps : List ℤ) (form : Form) (taken xs ys : List ℤ)
         → outputs_of_block taps form taken (xs ++ ys) ≡ outputs_of_block taps form taken xs
@@ -54,9 +54,9 @@ pub fn outputs_go_on()
 
 /// A filter that weighs nothing that it put, and has no single, weighs its last samples alone.
 pub fn plain_weighs()
-    ensures outputs { (taps : List ℤ) (form : Form) (samples : List ℤ) → IsPlain form
+    ensures outputs { (taps : List ℤ) (form : Form) (samples : List ℤ) → IsPlainForm form
         → outputs taps form samples ≡ weighed taps form samples }
-    ensures block { (taps : List ℤ) (form : Form) (taken xs : List ℤ) → IsPlain form
+    ensures block { (taps : List ℤ) (form : Form) (taken xs : List ℤ) → IsPlainForm form
         → outputs_of_block taps form taken xs ≡ weighed_behind taps form taken xs }
 {}
 

@@ -1,7 +1,7 @@
 //! Weighted sums of the last samples.
 ghost use Rattle.std.specs.Prelude.{◌≡◌, ◌+◌, ◌^◌, ◌≤◌, ℕ, List, [], ◌∷◌, ◌++◌, ℤ, pos, length, vec_capacity, unsigned_abs, IsTrue, IfOk, false};
 ghost use Rattle.stream_filters.specs.Sums.{at_place, summed};
-ghost use Rattle.stream_filters.specs.Weighing.{AreAhead, Shows, after_weighed};
+ghost use Rattle.stream_filters.specs.Weighing.{AreAhead, ShowsSamples, after_weighed};
 ghost use Rattle.stream_filters.specs.WeigherFields.{window_of};
 
 use crate::blocks::{BLOCK, block_outputs};
@@ -89,7 +89,7 @@ impl Weigher {
     /// Makes a weigher with these taps, before its first sample.
     pub(crate) fn new(alloc: Global, taps: &[i64], form: &Form) -> Result<Weigher, AllocError>
         requires { AreAhead taps.now form.now }
-        ensures shows { IfOk result (λ weigher. Shows weigher []) }
+        ensures shows { IfOk result (λ weigher. ShowsSamples weigher []) }
         ensures taps { IfOk result (λ weigher. weigher.taps ≡ taps.now) }
         ensures form { IfOk result (λ weigher. weigher.form ≡ form.now) }
     {
@@ -116,8 +116,8 @@ impl Weigher {
     /// Takes the sample `x` into the window, which gives up its oldest one where it is full.
     pub(crate) fn take(&mut self, x: i64)
         ensures window { self.new ≡ after_weighed self.old x }
-        ensures shows { (samples : List ℤ) → Shows self.old samples
-            → Shows self.new (samples ++ x ∷ []) }
+        ensures shows { (samples : List ℤ) → ShowsSamples self.old samples
+            → ShowsSamples self.new (samples ++ x ∷ []) }
 
         ensures taps { self.new.taps ≡ self.old.taps }
         ensures form { self.new.form ≡ self.old.form }

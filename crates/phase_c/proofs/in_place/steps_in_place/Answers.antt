@@ -3,7 +3,7 @@ use Rattle.std.proofs.lemmas.Int.{to_z-of_z}
 use Rattle.std.proofs.lemmas.List.{length-set}
 use Rattle.phase_accum.specs.Sends.{IsSend}
 use Rattle.stream_filters.specs.Filter.{StandsFor}
-use Rattle.phase_c.specs.Filtered.{output_behind}
+use Rattle.phase_c.specs.Filtered.{output_in_block}
 use Rattle.phase_c.proofs.Streams.{behind_more, fits_more, same_behind, step_fails, step_gives, step_stands, written_more}
 use Rattle.phase_c.proofs.in_place.steps_in_place.Goals as goal
 
@@ -37,7 +37,7 @@ loop-n-preserved c =
     let less : n < length was = omega (arith, c.loop-n-test.true, l.long) in
     let room : n < length block = omega (arith, less, l.long) in
     let gives : (before : List ℤ) → StandsFor old before
-    → (v ≡ output_behind old.taps old.form before was n) × IsSend v =
+    → (v ≡ output_in_block old.taps old.form before was n) × IsSend v =
     λ before s. step_gives old now before was n less _ next c.step.result l.taps l.form
     (c.step.ensures.answer _ (l.stands before s)) v c.in-Ok.is in
     rw (to_z-of_z w64 v fitting) record {

@@ -1,7 +1,7 @@
 use Rattle.std.proofs.Common.{rules, ◌≤◌, ◌^◌, ◌++◌, FitsSigned, sym, ap, subst, ◌∙◌}
 use Rattle.std.specs.Int.{w128}
 use Rattle.std.proofs.lemmas.Int.{to_z-of_z}
-use Rattle.stream_filters.specs.Filter.{IsPlain, weight}
+use Rattle.stream_filters.specs.Filter.{IsPlainForm, weight}
 use Rattle.stream_filters.specs.Range.{ranged}
 use Rattle.stream_filters.proofs.Firs.{again-light, joined-again, output_of-fields, output_of-plain}
 use Rattle.stream_filters.proofs.fir.Fir.answer.Goals as goal
@@ -19,7 +19,7 @@ output_for-requires-clause-light c =
 pub returns-then-is_plain : goal.returns-then-is_plain
 returns-then-is_plain c =
     let w = c.self.inside.weigher in
-    let plain : IsPlain w.form = subst IsPlain c.form-form.ensures.form
+    let plain : IsPlainForm w.form = subst IsPlainForm c.form-form.ensures.form
     (c.is_plain.ensures.0 c.if-is_plain.true) in
     rw (← c.self.view_is) (c.answer.ensures ∙ ap ranged (sym
     (output_of-plain w c.self.inside.again.items c.self.inside.puts.items
