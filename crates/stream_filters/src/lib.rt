@@ -1,8 +1,8 @@
 //! The arithmetic of streams: filters over samples, peers, and the turns of splitters and joiners.
 //!
 //! It is for a scheduler that moves the samples itself: make a `Fir` with `Fir::new` or
-//! `Fir::with_form`, and give it one sample after the other with `Fir::step`. `filter_list` filters a
-//! whole list, and faster.
+//! `Fir::with_form`, and give it one sample after the other with `Fir::step`. `filter_list` filters
+//! a whole list, and faster.
 #![tactic(auto)]
 
 mod blocks;
