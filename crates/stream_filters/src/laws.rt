@@ -8,9 +8,9 @@ ghost use mathlib.Core.List.{IsPrefix};
 
 use crate::fir::{AGAIN_MAX, DELAY_MAX, FEW_TAPS_MAX, PLUS_MAX, SHIFT_MAX, TAP_MAX, TAPS_MAX};
 
-/// The limits of filters and of values, as numbers: taps for samples, taps for what was put, taps of
-/// a filter by its shift alone, a tap's magnitude, a shift in bits, the magnitude of what is added, a
-/// delay in samples, and the least and the greatest value.
+/// The limits of filters and of values, as numbers: taps for samples, taps for what was put, taps
+/// of a filter by its shift alone, a tap's magnitude, a shift in bits, the magnitude of what is
+/// added, a delay in samples, and the least and the greatest value.
 pub fn limits_are()
     ensures taps { TAPS_MAX ≡ 1024 }
     ensures again { AGAIN_MAX ≡ 64 }
