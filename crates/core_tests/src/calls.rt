@@ -26,8 +26,8 @@ pub enum Call {
     Wait(u64),
     /// A wait for as many phases as this many places hold, the first of the phaser's `places`.
     Take(u64, usize),
-    /// The same, no further than the values in range.
-    TakeInRange(u64, usize),
+    /// How many values in range come next, of at most so many.
+    Ahead(u64, usize),
     /// What stands in the places.
     Places,
     Leave(u64),
@@ -209,18 +209,6 @@ impl Phaser {
         got_block(self.core.wait_block(task, &mut places[..count]))
     }
 
-    // Only what was got is kept: what stands behind it is not promised.
-    fn take_in_range(&mut self, task: u64, count: usize) -> Answer {
-        let mut got = [UNWRITTEN; 5];
-        let count = count.min(got.len());
-        let reply = self.core.wait_in_range(task, &mut got[..count]);
-        if let Ok(GotBlock::Values { count, .. }) = reply {
-            let count = count as usize;
-            self.places[..count].copy_from_slice(&got[..count]);
-        }
-        got_block(reply)
-    }
-
     fn held(&self) -> Answer {
         let [first, second, third, fourth, fifth] = self.places;
         Answer::Holds(first, second, third, fourth, fifth)
@@ -240,7 +228,7 @@ impl Phaser {
             Call::BothNeg(task, send) => self.both(task, Some(send), Some(Single::Neg))?,
             Call::Wait(task) => got(core.wait(task)),
             Call::Take(task, count) => self.take(task, count),
-            Call::TakeInRange(task, count) => self.take_in_range(task, count),
+            Call::Ahead(task, most) => got_block(core.good_ahead(task, most)),
             Call::Places => self.held(),
             Call::Leave(task) => match core.drop_task(task) {
                 Ok(()) => Answer::Done,

@@ -319,6 +319,7 @@ static CASES: [Case; 19] = [
             (Call::Leave(3), Answer::Done),
             (Call::LeastWait, Answer::Number(Some(3))),
             (Call::Values(1, &[5, 6, 7]), Answer::Joined(4)),
+            (Call::Ahead(2, 4), Answer::Values(3, 4)),
             (Call::Take(2, 4), Answer::Values(3, 4)),
             (
                 Call::Places,
@@ -339,19 +340,17 @@ static CASES: [Case; 19] = [
             (Call::Wait(7), Answer::GetsNot(WaitRefusal::NoTask)),
             (Call::Take(2, 5), Answer::GetsNot(WaitRefusal::BadBlock)),
             (Call::Take(2, 0), Answer::GetsNot(WaitRefusal::BadBlock)),
-            (
-                Call::TakeInRange(2, 0),
-                Answer::GetsNot(WaitRefusal::BadBlock),
-            ),
-            (Call::TakeInRange(2, 4), Answer::Values(0, 2)),
+            (Call::Ahead(1, 1), Answer::GetsNot(WaitRefusal::NoWait)),
+            (Call::Ahead(7, 1), Answer::GetsNot(WaitRefusal::NoTask)),
+            (Call::Ahead(2, 0), Answer::GetsNot(WaitRefusal::BadBlock)),
+            (Call::Ahead(2, 1), Answer::Values(0, 1)),
+            (Call::Ahead(2, 4), Answer::Values(0, 2)),
+            (Call::Take(2, 4), Answer::Values(0, 2)),
             (
                 Call::Places,
                 Answer::Holds(Value(1), Value(2), UNWRITTEN, UNWRITTEN, UNWRITTEN),
             ),
-            (
-                Call::TakeInRange(2, 4),
-                Answer::GetsNot(WaitRefusal::NotYet),
-            ),
+            (Call::Ahead(2, 4), Answer::GetsNot(WaitRefusal::NotYet)),
         ],
     },
     Case {
@@ -373,7 +372,8 @@ static CASES: [Case; 19] = [
             (Call::Signal(1, Some(9)), Answer::Joined(2)),
             (Call::Wait(2), Answer::Value(2, 9)),
             (Call::Values(1, &[10]), Answer::Joined(3)),
-            (Call::TakeInRange(2, 1), Answer::Values(3, 1)),
+            (Call::Ahead(2, 1), Answer::Values(3, 1)),
+            (Call::Take(2, 1), Answer::Values(3, 1)),
             (
                 Call::Places,
                 Answer::Holds(Value(10), UNWRITTEN, UNWRITTEN, UNWRITTEN, UNWRITTEN),
