@@ -1,10 +1,9 @@
--- The turn of a filter that signals what it has made before a value out of range.
-use Rattle.std.proofs.Common.{◌≡◌, ◌≢◌, ℕ, ℤ, List, zero, suc, ◌+◌, ◌-◌, ◌<◌, ◌≤◌, ◌||◌, Bool, true, false, cond, eqb, [], ◌∷◌, Option, Some, None, length, get_or, slice_get, set, map, take, drop, take-take, refl, sym, ap, subst, ◌∙◌, arith, length-append}
+-- The turn of a filter that signals the first of what it has made, and what is ahead of a task that
+-- signals.
+use Rattle.std.proofs.Common.{◌≡◌, ◌≢◌, ℕ, ℤ, List, zero, suc, ◌+◌, ◌-◌, ◌<◌, ◌≤◌, Bool, true, false, cond, eqb, [], ◌∷◌, Some, None, length, get_or, slice_get, set, map, take, drop, take-take, refl, sym, ap, subst, ◌∙◌, arith, length-append, min, ⊎_elim}
 use Rattle.std.specs.Prelude.{Result, Ok, Err}
 use Rattle.std.specs.List.{position_from, drop-map}
-use Rattle.std.specs.declared.vec.Vec.{Vec}
-use Rattle.std.specs.Global.{Global}
-use Rattle.std.proofs.lemmas.Bool.{eq-eqb, eqb-true, or_right}
+use Rattle.std.proofs.lemmas.Bool.{cases_lt, eq-eqb, or_right}
 use Rattle.std.proofs.lemmas.List.{drop-drop, length-drop, length-map, length-take-le, take-map}
 use Rattle.std.proofs.lemmas.Option.{same_Some}
 use Rattle.phase_accum.specs.Sends.{AreSends}
@@ -21,7 +20,7 @@ use Rattle.graph_base.specs.TaskLines.{IsGraph}
 use Rattle.stream_lists.specs.Jobs.{Job}
 use Rattle.stream_lists.specs.Ranges.{are_made, is_out_of_range}
 use Rattle.graph_runs.specs.Answers as answers
-use Rattle.graph_runs.specs.Answers.{answer_up_to, is_blocked, makes, output_at, signal_answer, signal_turn, turn_up_to, values_up_to, was_blocked, word_of_answer}
+use Rattle.graph_runs.specs.Answers.{after_answer, answer_up_to, is_blocked, makes, output_at, signal_answer, signal_turn, turn_up_to, values_up_to, was_blocked, word_of_answer}
 use Rattle.graph_runs.specs.Moments.{one, Moment, HasRun, limits_at, made_now}
 use Rattle.graph_runs.specs.NextBlocks.{MaySize}
 use Rattle.graph_runs.specs.Nexts as turns
@@ -29,6 +28,7 @@ use Rattle.graph_runs.specs.Nexts.{next_of, number_on}
 use Rattle.graph_runs.specs.TaskEvents.{TaskEvent, after_turn, signal}
 use Rattle.graph_runs.specs.TaskPlaces.{Owed, OwesUpTo, StandsUpTo, TaskPlace, lacking, nothing, registration_of_output, values}
 use Rattle.graph_runs.specs.Turned.{with_at}
+use Rattle.graph_runs.specs.declared.owed.Owed.{Owed as CodeOwed}
 use Rattle.graph_runs.specs.declared.owed.Owed.TheVariants as code
 use Rattle.graph_runs.proofs.Following.{Lacks, keeps_moved, puts_all, stays_at}
 use Rattle.graph_runs.proofs.InBlocks.{next_signals_are}
@@ -36,25 +36,28 @@ use Rattle.graph_runs.proofs.Lacking.{first_is, first_none, lacks_here}
 use Rattle.graph_runs.proofs.OwnEvents.{made_still}
 use Rattle.graph_runs.proofs.Signalling.{values_few}
 use Rattle.graph_runs.proofs.SizedTurns.{turn_reached}
-use Rattle.stream_job.specs.InRange.{HasMoved, HasStayed, IsNextGood, are_blocked, blocks_before, good_many, is_blocked_before, is_held_up, stands_before, told_too_big}
-use Rattle.stream_job.specs.Machines.{HasCores, IsMachineAt, most_in}
+use Rattle.stream_job.specs.Blocking.{called_on}
+use Rattle.stream_job.specs.InRange.{HasGone, IsGoodPart, TellsNone, are_blocked, blocks_before, is_blocked_before, is_held_up, stands_before, told_too_big, went_by}
+use Rattle.stream_job.specs.Machines.{HasCores, IsMachine, IsMachineAt, KeepsLines, most_in}
 use Rattle.stream_job.specs.Places.{IsTaskAt, owed_in, place_in_state}
-use Rattle.stream_job.specs.Stepping.{IsNextIn, is_at_rest, is_value_out, would_block}
-use Rattle.stream_job.specs.Turning.{turn_in}
+use Rattle.stream_job.specs.Stepping.{IsNextIn, MayStep, good_in, is_at_rest, is_value_out, owed_many}
+use Rattle.stream_job.specs.Turning.{HadTurnBy, MadeShows, turn_in}
 use Rattle.stream_job.specs.declared.machine.Machine.{Machine}
+use Rattle.stream_job.specs.declared.made.Made.{Made}
+use Rattle.stream_job.specs.declared.made.Made.TheVariants.{Blocked, Event, Nothing, OutOfRange}
+use Rattle.stream_job.specs.declared.turned.Turned.TheVariants.{Moved}
 use Rattle.stream_job.specs.declared.task_state.TaskState.{TaskState}
 use Rattle.stream_job.proofs.Events.{after_own, unchanged}
 use Rattle.stream_job.proofs.GoodSizes.{fewer_owed}
 use Rattle.stream_job.proofs.LinesAfter.{quiet_lines, same_lines, same_rooms}
-use Rattle.stream_job.proofs.Lively.{live_next}
 use Rattle.stream_job.proofs.Makes.{MakesEvent, makes_event}
-use Rattle.stream_job.proofs.Mosts.{stands_in}
+use Rattle.stream_job.proofs.Mosts.{mosts_same, mosts_set, stands_in}
 use Rattle.stream_job.proofs.Numbering.{few_after}
-use Rattle.stream_job.proofs.SentValues.{all_in_range, first_over, sends_all}
+use Rattle.stream_job.proofs.SentValues.{OverAt, all_in_range, first_over, none_over, sends_all}
 use Rattle.stream_job.proofs.SignalCalls.{SignalledCores, blocks, err_is, goes_on, ok_is, refusal_of, renumbered, reply_of, stops}
-use Rattle.stream_job.proofs.Signals.{HasMade, OwesHere, Values, signals_at}
+use Rattle.stream_job.proofs.Signals.{HasMade, OwesHere, Values, has_made, made_begun, made_over, owes_values, signals_at}
 use Rattle.stream_job.proofs.Stalling.{never_refused, rest_few, take_all}
-use Rattle.stream_job.proofs.WentTurns.{TellsNone, turn_none}
+use Rattle.stream_job.proofs.WentTurns.{blocked_is, had_moved, never_gone, never_out, turn_none}
 
 -- ---- what is left of a list
 
@@ -220,8 +223,50 @@ owed_left_is : (rest : List (Result ℤ TooBigValue)) → owed_left rest ≡ owe
 owed_left_is [] = refl
 owed_left_is (v ∷ vs) = refl
 
+-- no more than there are
+take_least : {X : Type 0} (n : ℕ) (xs : List X) → take n xs ≡ take (min (length xs) n) xs
+take_least n xs =
+    ⊎_elim
+    (λ (past : length xs < n). take_all n xs (omega arith)
+    ∙ sym (take_all (min (length xs) n) xs (omega arith)))
+    (λ (within : n ≤ length xs). let is : n ≡ min (length xs) n = omega arith in
+    ap (λ k. take k xs) is) (cases_lt (length xs) n)
+
+-- as many of what the filter owes as this size has are these
+pub part_same : {steps : ℕ} (job : Job) (machine : Machine) (m : Moment) (t most : ℕ)
+    (state : TaskState) (vs : List ℤ) → IsNextIn steps job machine t (turns.signals 0)
+    → IsMachineAt job m machine → slice_get machine.tasks.items t ≡ Some state
+    → HasMade job machine m t 0 state → length vs ≡ min (length state.made.items) most
+    → turn_up_to 1 most job m t ≡ turn_up_to 1 (length vs) job m t
+part_same job machine m t most state vs next at found made many =
+    let d = drop (length (m.put t 0)) (made_now job m t 0) in
+    let small = rest_few (most_in machine t) job m t 0 (place_in_state state)
+    (stands_in job machine m t state at found) (next.is m at) in
+    let all : map ranged d ≡ state.made.items =
+    ap (map ranged) (sym (take_all (most_in machine t) d small)) ∙ made.here.next in
+    let long : length d ≡ length state.made.items = sym (length-map d ranged) ∙ ap length all in
+    let same : take most d ≡ take (length vs) d =
+    ⊎_elim
+    (λ (past : length d < most). take_all most d (omega arith)
+    ∙ sym (take_all (length vs) d (omega arith)))
+    (λ (within : most ≤ length d). let is : most ≡ length vs = omega arith in
+    ap (λ n. take n d) is) (cases_lt (length d) most) in
+    let q = output_at job t 0 in
+    ap (answer_up_to 1 most job m t) (next.is m at)
+    ∙ ap (λ l. signal_turn job m t 0 l (signal t 0 q (number_on m t q) l)) same
+    ∙ sym (ap (answer_up_to 1 (length vs) job m t) (next.is m at))
+
+-- its sizes
+part_sized : {steps : ℕ} (job : Job) (old : Machine) (t : ℕ) (vs : List ℤ) (state : TaskState)
+    → IsNextIn steps job old t (turns.signals 0)
+    → ((m : Moment) → IsMachineAt job m old → HasMade job old m t 0 state)
+    → GoodPart state.made.items vs → MaySize job.graph t 1 (length vs)
+part_sized job old t vs state next made part =
+    fewer_owed job old t (length vs) part.some
+    (part_few job old next.some.0 t state vs (made next.some.0 next.some.1) part) next.sized
+
 -- the turn whose signal is accepted
-pub part_moved : {steps : ℕ} (job : Job) (old new : Machine) (t number p phase : ℕ) (vs : List ℤ)
+pub part_turn : {steps : ℕ} (job : Job) (old new : Machine) (t number p phase : ℕ) (vs : List ℤ)
     (state : TaskState) (left : Values) → IsNextIn steps job old t (turns.signals 0)
     → slice_get old.tasks.items t ≡ Some state → p ≡ output_at job t 0
     → number ≡ get_or state.numbers.items (registration_of_output (task_at job.graph t) 0) 0
@@ -231,16 +276,11 @@ pub part_moved : {steps : ℕ} (job : Job) (old new : Machine) (t number p phase
     → SignalledCores job old new number p vs
     → new.tasks.items ≡ set old.tasks.items t (with_made state left) → new.lines ≡ old.lines
     → left.items ≡ drop (length vs) state.made.items → left.cap ≡ state.made.cap
-    → HasMoved job old new t
-part_moved {steps} job old new t number p phase vs state left next found phaser numbered made part reply cores tasks lines items cap =
+    → HadTurnBy 1 (length vs) job old new t (Event p Moved)
+part_turn {steps} job old new t number p phase vs state left next found phaser numbered made part reply cores tasks lines items cap =
     record {
-      steps = 1;
-      most = length vs;
-      sized = sized;
-      moves = λ m at. (signal t 0 p number vs, answer m at);
-      good = λ m there at told.
-          (let wrong : Some answers.Moved ≡ Some (answers.TooBig there) =
-          sym (ap (word_of_answer job m) (answer m at)) ∙ told in cc);
+      shows = λ m at. subst (λ a. MadeShows job m t a (Event p Moved)) (sym (answer m at))
+          (refl, refl);
       after = λ m at none.
           after_own job m old new t (signal t 0 p number vs) (with_made state left) sized at
           (answer m at) refl (there m at)
@@ -251,12 +291,11 @@ part_moved {steps} job old new t number p phase vs state left next found phaser 
           quiet_lines job given m old new t (signal t 0 p number vs) sized at (answer m at) refl tt
           lines;
       own = same_rooms old new lines;
+      mosts = mosts_set old new t state (with_made state left) found tasks refl;
     }
   where
     sized : MaySize job.graph t 1 (length vs)
-    sized =
-        fewer_owed job old t (length vs) part.some
-        (part_few job old next.some.0 t state vs (made next.some.0 next.some.1) part) next.sized
+    sized = part_sized job old t vs state next made part
 
     answer : (m : Moment) → IsMachineAt job m old
         → turn_up_to 1 (length vs) job m t ≡ makes (signal t 0 p number vs)
@@ -293,6 +332,92 @@ part_moved {steps} job old new t number p phase vs state left next found phaser 
           made_none = λ other. absurd (other filters);
           sink = it.sink;
         }
+
+-- the turn whose signal is refused
+pub part_blocked : {steps : ℕ} (job : Job) (old new : Machine) (t number p : ℕ) (vs : List ℤ)
+    (state : TaskState) (r : SignalRefusal) → IsNextIn steps job old t (turns.signals 0)
+    → slice_get old.tasks.items t ≡ Some state → p ≡ output_at job t 0
+    → number ≡ get_or state.numbers.items (registration_of_output (task_at job.graph t) 0) 0
+    → ((m : Moment) → IsMachineAt job m old → HasMade job old m t 0 state)
+    → GoodPart state.made.items vs
+    → ((m : Moment) → IsMachineAt job m old → reply_of job m p number vs ≡ Err r)
+    → ((m : Moment) → IsMachineAt job m old
+    → HasCores job (with_at p (m.history p) m.history) new.cores.items)
+    → new.tasks ≡ old.tasks → new.lines ≡ old.lines
+    → HadTurnBy 1 (length vs) job old new t (Blocked p)
+part_blocked {steps} job old new t number p vs state r next found phaser numbered made part reply cores tasks lines =
+    record {
+      shows = λ m at. subst (λ a. MadeShows job m t a (Blocked p)) (sym (blocked m at))
+          (ap (called_on job t) (next.is m at) ∙ sym phaser);
+      after = λ m at none.
+          subst (λ a. IsMachineAt job (after_answer job a m) new) (sym (blocked m at))
+          (unchanged job m old new p at (cores m at) tasks lines);
+      lines = λ given m at none kept.
+          subst (λ a. KeepsLines job given (after_answer job a m) new.lines.items)
+          (sym (blocked m at)) (same_lines job given m old new lines kept);
+      own = same_rooms old new lines;
+      mosts = mosts_same old new tasks;
+    }
+  where
+    refused : (m : Moment) → IsMachineAt job m old
+        → turn_up_to 1 (length vs) job m t ≡ signal_answer (signal t 0 p number vs) (Some r)
+    refused m at =
+        part_answers job old m t number p vs state next at found phaser numbered (made m at) part
+        ∙ ap (signal_answer (signal t 0 p number vs)) (err_is (limits_at job p) (m.history p) number
+        (map one vs) (phaser_at job.graph p).single r (reply m at))
+
+    blocked : (m : Moment) → IsMachineAt job m old → turn_up_to 1 (length vs) job m t ≡ is_blocked
+    blocked m at =
+        refused m at
+        ∙ blocks (signal t 0 p number vs) r (λ e.
+        never_refused job m t (next_of job m t) (part_sized job old t vs state next made part)
+        at.graph next.sends at.reached refl (refused m at ∙ e))
+
+-- the turn of a filter that has made a value out of range among those that it would signal
+pub part_over : {steps : ℕ} (job : Job) (old : Machine) (t most at step : ℕ) (state : TaskState)
+    → IsNextIn steps job old t (turns.signals 0) → slice_get old.tasks.items t ≡ Some state
+    → ((m : Moment) → IsMachineAt job m old → HasMade job old m t 0 state)
+    → position_from is_value_out 0 (take (min (length state.made.items) most) state.made.items)
+    ≡ Some at
+    → step + length state.made.items ≡ state.begun + at
+    → HadTurnBy 1 most job old old t (OutOfRange step)
+part_over job old t most at step state next found made over count = record {
+  shows = λ m stands. subst (λ a. MadeShows job m t a (OutOfRange step)) (sym (answer m stands))
+      refl;
+  after = λ m stands good.
+      subst (λ a. IsMachineAt job (after_answer job a m) old) (sym (answer m stands)) stands;
+  lines = λ given m stands good kept.
+      subst (λ a. KeepsLines job given (after_answer job a m) old.lines.items)
+      (sym (answer m stands)) kept;
+  own = λ room all. all;
+  mosts = λ u. refl;
+}
+  where
+    values_are : (m : Moment) → IsMachineAt job m old → map ranged (values_up_to most job m t 0)
+        ≡ take (min (length state.made.items) most) state.made.items
+    values_are m stands =
+        let d = drop (length (m.put t 0)) (made_now job m t 0) in
+        let small = rest_few (most_in old t) job m t 0 (place_in_state state)
+        (stands_in job old m t state stands found) (next.is m stands) in
+        let all : map ranged d ≡ state.made.items =
+        ap (map ranged) (sym (take_all (most_in old t) d small)) ∙ (made m stands).here.next in
+        sym (take-map ranged most d) ∙ ap (take most) all ∙ take_least most state.made.items
+
+    answer : (m : Moment) → IsMachineAt job m old
+        → turn_up_to 1 most job m t ≡ answers.has_made (place.Task t, step)
+    answer m stands =
+        let vs = values_up_to most job m t 0 in
+        let q = output_at job t 0 in
+        let first = first_over vs (take (min (length state.made.items) most) state.made.items) 0
+        (length (m.put t 0)) at (values_are m stands) over in
+        let is = first.is in
+        let begun = made_begun job old m t 0 state next stands found (made m stands) in
+        let same : length (m.put t 0) + first.at ≡ step = omega arith in
+        ap (answer_up_to 1 most job m t) (next.is m stands)
+        ∙ stops job m t 0 step vs (signal t 0 q (number_on m t q) vs)
+        (first.found ∙ ap (λ n. Some n) same)
+        ∙ ap (λ b. cond b (answers.has_made (place.Task t, step)) answers.is_refused)
+        (ap (λ k. are_made k 0) (made m stands).filters)
 
 -- ---- a value out of range that is next
 
@@ -375,215 +500,211 @@ first_is_out [] e = absurd (cc)
 first_is_out (Ok v ∷ rs) e = absurd (let more = at_least 1 0 rs e in omega arith)
 first_is_out (Err o ∷ rs) e = record { out = o; rest = rs; are = refl }
 
--- one value in range tells none that is not
-pub value_none : {steps : ℕ} (job : Job) (machine : Machine) (m : Moment) (t j : ℕ)
-    (state : TaskState) (x : ℤ) → IsNextIn steps job machine t (turns.signals j)
-    → IsMachineAt job m machine
-    → map ranged (values_up_to (most_in machine t) job m t j) ≡ Ok x ∷ []
-    → TellsNone job m (turn_in steps job machine m t)
-value_none {steps} job machine m t j state x next at value =
-    let vs = values_up_to (most_in machine t) job m t j in
-    let p = output_at job t j in
-    let ranges = all_in_range vs (x ∷ []) value in
-    subst (λ n. TellsNone job m (answer_up_to steps (most_in machine t) job m t n))
-    (sym (next.is m at))
-    (turn_none job m t j vs (signal t j p (number_on m t p) vs)
-    (λ made. ap (position_from is_out_of_range (length (m.put t j))) ranges.same
-    ∙ ranges.none (length (m.put t j))) refl)
+-- ---- what is put
 
--- ---- what the values are that are put
+pub some_made : (items : List (Result ℤ TooBigValue)) → items ≢ [] → 1 ≤ length items
+some_made [] some = absurd (some refl)
+some_made (v ∷ vs) some = omega arith
 
-take_length : {X : Type 0} (n : ℕ) (xs : List X) → take (length (take n xs)) xs ≡ take n xs
-take_length zero xs = refl
-take_length (suc n) [] = refl
-take_length (suc n) (x ∷ xs) = ap (λ l. x ∷ l) (take_length n xs)
+-- the first so many of these ranges, all of which are in range, are a good part
+pub put_many : (items : List (Result ℤ TooBigValue)) (vs : List ℤ) (many : ℕ)
+    → many ≤ length items → map (λ x. Ok x) vs ≡ take many items → length vs ≡ many
+put_many items vs many few are =
+    let long : length (map {B = Result ℤ TooBigValue} (λ x. Ok x) vs) ≡ length vs =
+    length-map vs (λ x. Ok x) in
+    sym long ∙ ap length are ∙ length-take-le many items few
 
-take_less : {X : Type 0} (n : ℕ) (xs : List X) → length (take n xs) ≤ length xs
-take_less zero xs = omega arith
-take_less (suc n) [] = omega arith
-take_less (suc n) (x ∷ xs) = let rest = take_less n xs in omega arith
+pub put_part : (items : List (Result ℤ TooBigValue)) (vs : List ℤ) (many : ℕ)
+    → many ≤ length items → 1 ≤ many → map (λ x. Ok x) vs ≡ take many items → GoodPart items vs
+put_part items vs many few some are =
+    let long = put_many items vs many few are in
+    record {
+      are = are ∙ ap (λ n. take n items) (sym long);
+      some = omega arith;
+      few = omega arith;
+    }
 
--- those before the first that is out of range
-pub record ArePut (items : List (Result ℤ TooBigValue)) (place : Option ℕ) (vs : List ℤ) : Type 0
+-- ---- values before one that is out of range
+
+none_before : (from from' k n : ℕ) (xs : List ℤ)
+    → position_from is_out_of_range from xs ≡ Some k → k ≡ from + n
+    → position_from is_out_of_range from' (take n xs) ≡ None
+none_before from from' k zero xs found is = refl
+none_before from from' k (suc n) [] found is = refl
+none_before from from' k (suc n) (x ∷ xs) found is =
+    by (is_out_of_range x) refl found
+    (λ rest. none_before (from + 1) (from' + 1) k n xs rest (omega arith))
   where
-    pub place_is : place ≡ position_from is_value_out 0 items
-    pub all : place ≡ None → map (λ x. Ok x) vs ≡ items
-    pub before : (n : ℕ) → place ≡ Some n → map (λ x. Ok x) vs ≡ take n items
+    by : (b : Bool) → is_out_of_range x ≡ b
+        → cond b (Some from) (position_from is_out_of_range (from + 1) xs) ≡ Some k
+        → (position_from is_out_of_range (from + 1) xs ≡ Some k
+        → position_from is_out_of_range (from' + 1) (take n xs) ≡ None)
+        → position_from is_out_of_range from' (take (suc n) (x ∷ xs)) ≡ None
+    by true out first more = absurd (let same = same_Some from k first in omega arith)
+    by false out rest more =
+        ap (λ b. cond b (Some from') (position_from is_out_of_range (from' + 1) (take n xs))) out
+        ∙ more rest
 
-pub are_put : (made items : List (Result ℤ TooBigValue)) (place : Option ℕ) (vs : List ℤ)
-    → made ≡ items → place ≡ position_from is_value_out 0 made
-    → (place ≡ None → map (λ x. Ok x) vs ≡ made)
-    → ((n : ℕ) → place ≡ Some n → map (λ x. Ok x) vs ≡ take n made) → ArePut items place vs
-are_put made items place vs same place_is all before = record {
-  place_is = place_is ∙ ap (position_from is_value_out 0) same;
-  all = λ none. all none ∙ same;
-  before = λ n is. before n is ∙ ap (take n) same;
+-- a signal of these tells none that is
+part_none : (job : Job) (old : Machine) (m : Moment) (t many : ℕ)
+    → IsGoodPart many job old t → IsMachineAt job m old
+    → TellsNone job m (turn_up_to 1 many job m t)
+part_none job old m t many part at =
+    let q = output_at job t 0 in
+    let vs = values_up_to many job m t 0 in
+    subst (λ n. TellsNone job m (answer_up_to 1 many job m t n)) (sym (part.next m at))
+    (turn_none job m t 0 vs (signal t 0 q (number_on m t q) vs)
+    (λ made. none_before 0 (length (m.put t 0)) many many
+    (drop (length (m.put t 0)) (made_now job m t 0)) (part.good m at) (omega arith)) refl)
+
+-- a filter whose signal of them would be blocked is held up
+part_held : (job : Job) (old : Machine) (m : Moment) (t many : ℕ) → IsGoodPart many job old t
+    → IsMachineAt job m old → turn_up_to 1 many job m t ≡ is_blocked → is_held_up job m t ≡ true
+part_held job old m t zero part at blocked = absurd (let some = part.some in omega arith)
+part_held job old m t (suc n) part at blocked =
+    or_right (is_at_rest job m t) (is_blocked_before job m t)
+    (ap (blocks_before job m t) (part.next m at) ∙ ap (are_blocked job m t 0) (part.good m at)
+    ∙ ap was_blocked (sym (ap (answer_up_to 1 (suc n) job m t) (part.next m at)) ∙ blocked))
+
+-- the turn of a filter that signals them
+pub had_part : {steps : ℕ} (job : Job) (old new : Machine) (t many : ℕ) (it : Made)
+    → IsGoodPart many job old t → IsMachine job old → MayStep job old t steps
+    → HadTurnBy 1 many job old new t it → HasGone steps job old new t (went_by it)
+had_part job old new t many (Event p told) part some sized had =
+    had_moved job old new t p told (fewer_owed job old t many part.some part.few sized) had
+    (λ m at. part_none job old m t many part at)
+had_part {steps} job old new t many (Blocked p) part some sized had = record {
+  held = λ line m at. part_held job old m t many part at (blocked m at);
+  stands = λ m at none. subst (λ a. IsMachineAt job (after_answer job a m) new) (blocked m at)
+      (had.after m at none);
+  lines = λ given m at none kept.
+      subst (λ a. KeepsLines job given (after_answer job a m) new.lines.items) (blocked m at)
+      (had.lines given m at none kept);
+  own = had.own;
 }
-
--- where there are some they are a good part
-pub put_good : (items : List (Result ℤ TooBigValue)) (place : Option ℕ) (vs : List ℤ)
-    → ArePut items place vs → 1 ≤ length vs → GoodPart items vs
-put_good items None vs put some =
-    let all = put.all refl in
-    let long : length (map {B = Result ℤ TooBigValue} (λ x. Ok x) vs) ≡ length vs =
-    length-map vs (λ x. Ok x) in
-    let many = ap length all in
-    record {
-      are = all ∙ sym (take_all (length vs) items (omega arith));
-      some = some;
-      few = omega arith;
-    }
-put_good items (Some n) vs put some =
-    let before = put.before n refl in
-    let long : length (map {B = Result ℤ TooBigValue} (λ x. Ok x) vs) ≡ length vs =
-    length-map vs (λ x. Ok x) in
-    let many : length (map {B = Result ℤ TooBigValue} (λ x. Ok x) vs) ≡ length (take n items) =
-    ap length before in
-    let less = take_less n items in
-    let same : length (take n items) ≡ length vs = omega arith in
-    record {
-      are = before ∙ sym (take_length n items) ∙ ap (λ k. take k items) same;
-      some = some;
-      few = omega arith;
-    }
-
--- where there is none the first is out of range
-pub put_none : (items : List (Result ℤ TooBigValue)) (place : Option ℕ) (vs : List ℤ)
-    → ArePut items place vs → items ≢ [] → vs ≡ [] → FirstOut items
-put_none [] place vs put some none = absurd (some refl)
-put_none (Err o ∷ rest) place vs put some none = record { out = o; rest = rest; are = refl }
-put_none (Ok v ∷ rest) None vs put some none =
-    absurd (let wrong : [] ≡ Ok v ∷ rest =
-    sym (ap (map {B = Result ℤ TooBigValue} (λ x. Ok x)) none) ∙ put.all refl in cc)
-put_none (Ok v ∷ rest) (Some zero) vs put some none =
-    absurd (let more = at_least 1 0 rest (sym put.place_is) in omega arith)
-put_none (Ok v ∷ rest) (Some (suc n)) vs put some none =
-    absurd (let wrong : [] ≡ Ok v ∷ take n rest =
-    sym (ap (map {B = Result ℤ TooBigValue} (λ x. Ok x)) none) ∙ put.before (suc n) refl in cc)
-
--- ---- a filter whose signal would be blocked
-
--- it is held up
-pub part_held : {steps : ℕ} (job : Job) (machine : Machine) (m : Moment) (t number p : ℕ)
-    (vs : List ℤ) (state : TaskState) (place : Option ℕ) → IsNextIn steps job machine t (turns.signals 0)
-    → IsMachineAt job m machine → slice_get machine.tasks.items t ≡ Some state
-    → HasMade job machine m t 0 state → ArePut state.made.items place vs → 1 ≤ length vs
-    → turn_up_to 1 (length vs) job m t ≡ is_blocked → is_held_up job m t ≡ true
-part_held {steps} job machine m t number p vs state place next at found made put some blocked =
-    by place refl
   where
-    d : List ℤ
-    d = drop (length (m.put t 0)) (made_now job m t 0)
+    blocked : (m : Moment) → IsMachineAt job m old → turn_up_to 1 many job m t ≡ is_blocked
+    blocked m at = blocked_is job m t p (turn_up_to 1 many job m t) (had.shows m at)
+had_part job old new t many (OutOfRange step) part some sized had =
+    absurd (never_out job old new t step some had (λ m at. part_none job old m t many part at))
+had_part job old new t many Nothing part some sized had =
+    absurd (never_gone job old new t some had (λ m at. part_none job old m t many part at))
 
-    all : state.made.items ≡ map ranged d
-    all =
-        sym made.here.next
-        ∙ ap (map ranged) (take_all (most_in machine t) d
-        (rest_few (most_in machine t) job m t 0 (place_in_state state)
-        (stands_in job machine m t state at found) (next.is m at)))
+-- ---- what a task owes, looked at
 
-    good : GoodPart state.made.items vs
-    good = put_good state.made.items place vs put some
+-- all of it is in range
+pub owed_good : {steps : ℕ} (job : Job) (machine : Machine) (t j : ℕ) (state : TaskState)
+    → IsNextIn steps job machine t (turns.signals j)
+    → slice_get machine.tasks.items t ≡ Some state
+    → good_in (owed_in state.owed state.made.items) ≡ None
+    → (m : Moment) → IsMachineAt job m machine → TellsNone job m (turn_in steps job machine m t)
+owed_good {steps} job machine t j state next found none m at =
+    let most = most_in machine t in
+    let o = owes_values most job m t j (owed_in state.owed state.made.items)
+    (stands_in job machine m t state at found).owes (next.is m at) in
+    let vs = values_up_to most job m t j in
+    let q = output_at job t j in
+    subst (λ n. TellsNone job m (answer_up_to steps most job m t n)) (sym (next.is m at))
+    (turn_none job m t j vs (signal t j q (number_on m t q) vs)
+    (λ made. none_over vs o.0 0 (length (m.put t j)) o.2 (sym (ap good_in o.1) ∙ none)) refl)
 
-    is : answer_up_to 1 (length vs) job m t (turns.signals 0) ≡ is_blocked
-    is = sym (ap (answer_up_to 1 (length vs) job m t) (next.is m at)) ∙ blocked
+-- the first is out of range
+pub owed_before : {steps : ℕ} (job : Job) (machine : Machine) (t j phase : ℕ) (state : TaskState)
+    → IsNextIn steps job machine t (turns.signals j)
+    → slice_get machine.tasks.items t ≡ Some state
+    → good_in (owed_in state.owed state.made.items) ≡ Some 0
+    → phase + owed_many (owed_in state.owed state.made.items) ≡ state.begun
+    → (m : Moment) → IsMachineAt job m machine
+    → stands_before job m t ≡ Some (place.Task t, phase)
+owed_before job machine t j phase state next found out many m at =
+    let o = owes_values (most_in machine t) job m t j (owed_in state.owed state.made.items)
+    (stands_in job machine m t state at found).owes (next.is m at) in
+    let over = sym (ap good_in o.1) ∙ out in
+    let first = first_is_out o.0 over in
+    let here : OwesHere job machine m t j state o.0 = record { owes = o.1; next = o.2 } in
+    let begun = (made_over job machine m t j 0 state o.0 next at found here over).begun in
+    let long : owed_many (owed_in state.owed state.made.items) ≡ length o.0 = ap owed_many o.1 in
+    let same : length (m.put t j) ≡ phase = omega arith in
+    owes_out job machine m t j state first.out first.rest next at
+    (subst (OwesHere job machine m t j state) first.are here)
+    ∙ ap (λ n. Some (place.Task t, n)) same
 
-    by : (o : Option ℕ) → place ≡ o → is_held_up job m t ≡ true
-    by None e =
-        let live = live_next job m t (turns.signals 0) (next.is m at) (λ e. absurd (cc)) in
-        let long : length (map {B = Result ℤ TooBigValue} (λ x. Ok x) vs) ≡ length vs =
-        length-map vs (λ x. Ok x) in
-        let many = ap length (put.all e) in
-        let ranges : length (map ranged d) ≡ length d = length-map d ranged in
-        let same = ap length all in
-        let made_long : length d ≡ length (made_now job m t 0) - length (m.put t 0) =
-        length-drop (length (m.put t 0)) (made_now job m t 0) in
-        let values : values_up_to (length (made_now job m t 0)) job m t 0
-        ≡ values_up_to (length vs) job m t 0 =
-        take_all (length (made_now job m t 0)) d (omega arith)
-        ∙ sym (take_all (length vs) d (omega arith)) in
-        let q = output_at job t 0 in
-        let rest : is_at_rest job m t ≡ true =
-        ap (λ b. cond b (would_block job m t (next_of job m t)) true) live
-        ∙ ap (would_block job m t) (next.is m at)
-        ∙ ap (λ l. was_blocked (signal_turn job m t 0 l (signal t 0 q (number_on m t q) l))) values
-        ∙ ap was_blocked is in
-        ap (λ b. b || is_blocked_before job m t) rest
-    by (Some zero) e =
-        absurd (let none = ap length (put.before 0 e) in
-        let long : length (map {B = Result ℤ TooBigValue} (λ x. Ok x) vs) ≡ length vs =
-        length-map vs (λ x. Ok x) in omega arith)
-    by (Some (suc n)) e =
-        let over = first_over d state.made.items 0 0 (suc n) (sym all) (sym put.place_is ∙ e) in
-        let where_is = over.is in
-        let first : 0 + over.at ≡ suc n = omega arith in
-        let found_at : good_many job m t 0 ≡ Some (suc n) = over.found ∙ ap (λ k. Some k) first in
-        let few : over.at < length d = over.few in
-        let ranges : length (map ranged d) ≡ length d = length-map d ranged in
-        let same = ap length all in
-        let long : length (map {B = Result ℤ TooBigValue} (λ x. Ok x) vs) ≡ length vs =
-        length-map vs (λ x. Ok x) in
-        let before = ap length (put.before (suc n) e) in
-        let taken = length-take-le (suc n) state.made.items (omega arith) in
-        let many : length vs ≡ suc n = omega arith in
-        or_right (is_at_rest job m t) (is_blocked_before job m t)
-        (ap (blocks_before job m t) (next.is m at)
-        ∙ ap (are_blocked job m t 0) found_at
-        ∙ ap (λ k. was_blocked (answer_up_to 1 k job m t (turns.signals 0))) (sym many)
-        ∙ ap was_blocked is)
+-- as many are owed at least
+pub owed_begun : {steps : ℕ} (job : Job) (machine : Machine) (t j : ℕ) (state : TaskState)
+    → IsNextIn steps job machine t (turns.signals j)
+    → slice_get machine.tasks.items t ≡ Some state
+    → good_in (owed_in state.owed state.made.items) ≡ Some 0
+    → owed_many (owed_in state.owed state.made.items) ≤ state.begun
+owed_begun job machine t j state next found out =
+    let m = next.some.0 in
+    let at = next.some.1 in
+    let o = owes_values (most_in machine t) job m t j (owed_in state.owed state.made.items)
+    (stands_in job machine m t state at found).owes (next.is m at) in
+    let over = sym (ap good_in o.1) ∙ out in
+    let begun = (made_over job machine m t j 0 state o.0 next at found
+    (record { owes = o.1; next = o.2 }) over).begun in
+    let long : owed_many (owed_in state.owed state.made.items) ≡ length o.0 = ap owed_many o.1 in
+    omega arith
 
--- the turn whose signal is refused
-pub part_stayed : {steps : ℕ} (job : Job) (old new : Machine) (t number p : ℕ) (vs : List ℤ)
-    (state : TaskState) (place : Option ℕ) (r : SignalRefusal)
-    → IsNextGood steps job old t (turns.signals 0) → slice_get old.tasks.items t ≡ Some state
-    → p ≡ output_at job t 0
-    → number ≡ get_or state.numbers.items (registration_of_output (task_at job.graph t) 0) 0
-    → ((m : Moment) → IsMachineAt job m old → HasMade job old m t 0 state)
-    → ArePut state.made.items place vs → 1 ≤ length vs
-    → ((m : Moment) → IsMachineAt job m old → reply_of job m p number vs ≡ Err r)
-    → ((m : Moment) → IsMachineAt job m old
-    → HasCores job (with_at p (m.history p) m.history) new.cores.items)
-    → new.tasks ≡ old.tasks → new.lines ≡ old.lines → HasStayed steps job old new t
-part_stayed {steps} job old new t number p vs state place r good found phaser numbered made put some reply cores tasks lines =
-    record {
-      held = λ line m at. part_held job old m t number p vs state place good.next_in at found
-          (made m at) put some (blocked m at);
-      stands = λ m at none. unchanged job m old new p at (cores m at) tasks lines;
-      lines = λ given m at none kept. same_lines job given m old new lines kept;
-      own = same_rooms old new lines;
-    }
+-- some come before the first that is: then the task has made them
+made_some : (owed : CodeOwed) (made : List (Result ℤ TooBigValue)) (n : ℕ)
+    → good_in (owed_in owed made) ≡ Some (suc n) → made ≢ []
+made_some owed (v ∷ vs) n some = λ e. absurd (cc)
+made_some code.Nothing [] n some = absurd (cc)
+made_some (code.Exchange x) [] n some = absurd (cc)
+made_some (code.Value i (Ok v)) [] n some = absurd (cc)
+made_some (code.Value i (Err out)) [] n some =
+    absurd (let wrong = same_Some 0 (suc n) some in omega arith)
+
+part_owed : {steps : ℕ} (job : Job) (machine : Machine) (t j n : ℕ) (state : TaskState)
+    → IsNextIn steps job machine t (turns.signals j)
+    → slice_get machine.tasks.items t ≡ Some state
+    → good_in (owed_in state.owed state.made.items) ≡ Some (suc n)
+    → IsGoodPart (suc n) job machine t
+part_owed {steps} job machine t j n state next found good = record {
+  some = omega arith;
+  few = (let m = next.some.0 in let at = next.some.1 in
+      let over = over m at in
+      let is = over.is in
+      let few : over.at < length (rest_of m) = over.few in
+      let small = rest_few (most_in machine t) job m t 0 (place_in_state state)
+      (stands_in job machine m t state at found) (is_zero m at) in
+      omega arith);
+  owes = λ other there none. some (ap (λ s. s.made.items)
+      (same_Some state other (sym found ∙ there)) ∙ none);
+  next = is_zero;
+  good = λ m at. (let over = over m at in let is = over.is in
+      let same : 0 + over.at ≡ suc n = omega arith in
+      over.found ∙ ap (λ k. Some k) same);
+}
   where
-    part : GoodPart state.made.items vs
-    part = put_good state.made.items place vs put some
+    some : state.made.items ≢ []
+    some = made_some state.owed state.made.items n good
 
-    sized : MaySize job.graph t 1 (length vs)
-    sized =
-        fewer_owed job old t (length vs) some
-        (part_few job old good.next_in.some.0 t state vs
-        (made good.next_in.some.0 good.next_in.some.1) part) good.next_in.sized
+    made : (m : Moment) → IsMachineAt job m machine → HasMade job machine m t j state
+    made m at = has_made job machine m t j state next at found some
 
-    refused : (m : Moment) → IsMachineAt job m old
-        → turn_up_to 1 (length vs) job m t ≡ signal_answer (signal t 0 p number vs) (Some r)
-    refused m at =
-        part_answers job old m t number p vs state good.next_in at found phaser numbered (made m at)
-        part
-        ∙ ap (signal_answer (signal t 0 p number vs)) (err_is (limits_at job p) (m.history p) number
-        (map one vs) (phaser_at job.graph p).single r (reply m at))
+    is_zero : (m : Moment) → IsMachineAt job m machine → next_of job m t ≡ turns.signals 0
+    is_zero m at = next.is m at ∙ ap turns.signals (sym (made m at).first)
 
-    blocked : (m : Moment) → IsMachineAt job m old → turn_up_to 1 (length vs) job m t ≡ is_blocked
-    blocked m at =
-        refused m at
-        ∙ blocks (signal t 0 p number vs) r (λ e.
-        never_refused job m t (next_of job m t) sized at.graph good.sends at.reached refl
-        (refused m at ∙ e))
+    rest_of : Moment → List ℤ
+    rest_of m = drop (length (m.put t 0)) (made_now job m t 0)
 
--- a list that has no elements
-pub vec_none : {X : Type 0} (v : Vec X Global) → eqb v.len 0 ≡ true → v.items ≡ []
-vec_none v e =
-    let many : v.len ≡ length v.items = v.ok.0 in
-    let zero_is : v.len ≡ 0 = eqb-true v.len 0 e in
-    none v.items (omega arith)
-  where
-    none : {X : Type 0} (xs : List X) → length xs ≡ 0 → xs ≡ []
-    none [] e = refl
-    none (x ∷ xs) e = absurd (omega arith)
+    over : (m : Moment) → IsMachineAt job m machine → OverAt (rest_of m) 0 0 (suc n)
+    over m at =
+        let o = owes_values (most_in machine t) job m t 0 (owed_in state.owed state.made.items)
+        (stands_in job machine m t state at found).owes (is_zero m at) in
+        let small = rest_few (most_in machine t) job m t 0 (place_in_state state)
+        (stands_in job machine m t state at found) (is_zero m at) in
+        first_over (rest_of m) o.0 0 0 (suc n)
+        (ap (map ranged) (sym (take_all (most_in machine t) (rest_of m) small)) ∙ o.2)
+        (sym (ap good_in o.1) ∙ good)
+
+pub owed_part : {steps : ℕ} (job : Job) (machine : Machine) (t j many : ℕ) (state : TaskState)
+    → IsNextIn steps job machine t (turns.signals j)
+    → slice_get machine.tasks.items t ≡ Some state
+    → good_in (owed_in state.owed state.made.items) ≡ Some many → 0 < many
+    → IsGoodPart many job machine t
+owed_part job machine t j zero state next found good some = absurd (omega arith)
+owed_part job machine t j (suc n) state next found good some =
+    part_owed job machine t j n state next found good

@@ -1,15 +1,15 @@
--- The turn of a task that waits for values in range.
+-- What is ahead of a task that waits.
 use Rattle.std.proofs.Common.{◌≡◌, ℕ, ℤ, List, zero, suc, ◌+◌, ◌-◌, ◌<◌, ◌≤◌, Bool, true, false, cond, [], ◌∷◌, ◌++◌, Option, Some, None, length, get_or, slice_get, take, drop, take-take, refl, sym, ap, subst, ◌∙◌, arith}
 use Rattle.std.specs.Prelude.{Result, Ok, Err, min, nat_lt, slice_range}
 use Rattle.std.specs.List.{position_from, prefix_len, range_with_len, take_while}
 use Rattle.std.proofs.Math.Seq.{drop-cons}
 use Rattle.std.proofs.lemmas.Bool.{lt-ltb}
 use Rattle.std.proofs.lemmas.List.{length-map}
+use Rattle.std.proofs.lemmas.Option.{same_Some}
 use Rattle.std.proofs.lemmas.List.FromFn.{get_or-map-range_with_len, length-range_with_len}
 use Rattle.phase_accum.specs.declared.outcome.Outcome.{Outcome}
 use Rattle.phase_accum.specs.declared.outcome.Outcome.TheVariants as outcome
-use Rattle.phase_core.specs.Blocks.{after_in_range, before_too_big, is_not_too_big}
-use Rattle.phase_history.specs.declared.event.Event.TheVariants.{Waited}
+use Rattle.phase_core.specs.Blocks.{before_too_big, is_not_too_big}
 use Rattle.phase_history.specs.declared.got.Got.TheVariants as got
 use Rattle.phase_history.specs.declared.got.GotBlock.{GotBlock}
 use Rattle.phase_history.specs.declared.got.GotBlock.TheVariants as block
@@ -19,7 +19,7 @@ use Rattle.phase_history.specs.Phases.{stream_of, value_of_phase}
 use Rattle.phase_history.specs.Refusals.{wait_refusal}
 use Rattle.phase_history.specs.Replies.{got_at, got_block_at, refused_or, wait_block_reply, wait_reply}
 use Rattle.phase_base.specs.Limits.{Limits}
-use Rattle.phase_core.proofs.InRangeBlocks.{in_range-few}
+use Rattle.phase_core.proofs.GoodAhead.{good-few, good_block, none_good}
 use Rattle.phase_history.proofs.BlockAnswers.{block_answers_law, block_tells}
 use Rattle.graph_base.specs.declared.place.Place.TheVariants as place
 use Rattle.stream_lists.specs.Jobs.{Job}
@@ -27,35 +27,36 @@ use Rattle.stream_lists.specs.Lists.{is_sink_at}
 use Rattle.stream_lists.specs.Ranges.{is_too_big}
 use Rattle.graph_runs.specs.Answers as answers
 use Rattle.graph_base.specs.Graphs.{task_at}
-use Rattle.graph_runs.specs.Answers.{answer_up_to, block_answer, makes, tells_up_to, told_got, turn_up_to, wait_answer, word_of_answer}
+use Rattle.graph_runs.specs.Answers.{Answer, answer_up_to, block_answer, makes, tells_up_to, told_got, told_wait, turn_up_to, wait_answer, word_of_answer}
 use Rattle.graph_runs.specs.Moments.{Moment, input_at, limits_at, value_at}
-use Rattle.graph_runs.specs.NextBlocks.{MaySize}
 use Rattle.graph_runs.proofs.Blocks.{block_few, block_some}
 use Rattle.graph_runs.specs.Nexts as turns
 use Rattle.graph_runs.specs.Nexts.{Next, next_of}
 use Rattle.graph_runs.specs.TaskEvents.{exchange_wait, first_wait}
 use Rattle.graph_runs.proofs.SizedTurns.{turn_reached}
-use Rattle.stream_job.specs.InRange.{HasMoved, IsNextGood, stands_before, told_too_big}
+use Rattle.stream_job.specs.InRange.{IsGoodSize, TellsNone, is_plain, stands_before, told_too_big}
 use Rattle.stream_job.specs.Machines.{IsMachineAt, most_in}
 use Rattle.stream_job.specs.Stepping.{HasRoomAt, HasRoomIn, IsNextIn}
-use Rattle.stream_job.specs.Turning.{HadTurn, turn_in}
+use Rattle.stream_job.specs.Turning.{turn_in}
 use Rattle.stream_job.specs.declared.machine.Machine.{Machine}
-use Rattle.stream_job.specs.declared.made.Made.TheVariants.{Event}
 use Rattle.stream_job.specs.declared.task_state.TaskState.{TaskState}
-use Rattle.stream_job.specs.declared.turned.Turned.TheVariants as turned
 use Rattle.stream_job.proofs.GoodSizes.{block_fewer, fewer_steps}
 use Rattle.stream_job.proofs.Numbering.{few_after}
 use Rattle.stream_job.proofs.Stalling.{never_refused}
-use Rattle.stream_job.proofs.Tellings.{turn_told_so}
-use Rattle.stream_job.proofs.Waits.{AsksFirst, GotAll, exchange_so, first_so, first_waits_at, got_all}
+use Rattle.stream_job.proofs.Exchanges.{never_ended}
+use Rattle.stream_job.proofs.FirstTurns.{first_never_ended}
+use Rattle.stream_job.proofs.Waits.{AsksFirst, GotAll, blocks, blocks_all, exchange_so, exchange_waits_at, first_so, first_waits_at, got_all}
 use Rattle.stream_job.proofs.WhatNext.{waits_begins}
-use Rattle.stream_job.proofs.WentTurns.{had_moved, is_plain}
+use Rattle.stream_job.proofs.WentTurns.{all_steps}
 
 -- ---- the reply
 
 -- one reply is another
 abbrev pub IsReply : Result GotBlock WaitRefusal → Result GotBlock WaitRefusal → Type 0
 IsReply a b = a ≡ b
+
+pub same_given : (a b : GotBlock) → IsReply (Ok a) (Ok b) → a ≡ b
+same_given a b e = cc
 
 -- what a wait for the whole block would get, of which so many are in range
 pub record WouldGet (stream : List Outcome) (reply : Result GotBlock WaitRefusal) (phase count : ℕ)
@@ -145,7 +146,7 @@ pub got_good : (stream : List Outcome) (reply : Result GotBlock WaitRefusal) (ph
 got_good stream reply phase count outcomes would are =
     let whole = slice_range stream phase (phase + would.all) in
     let first = length (take_while is_not_too_big whole) in
-    let within : first ≤ length whole = in_range-few whole in
+    let within : first ≤ length whole = good-few whole in
     let most : length whole ≤ phase + would.all - phase =
     take_few (phase + would.all - phase) (drop phase stream) in
     let is : count ≡ first = would.count_is in
@@ -171,24 +172,24 @@ got_part job m p n phase count outcomes reply are =
 -- ---- fewer steps
 
 pub next_fewer : {steps : ℕ} (job : Job) (old : Machine) (t n : ℕ) (next : Next)
-    → IsNextGood steps job old t next → 1 ≤ n → n ≤ steps → IsNextIn n job old t next
-next_fewer {steps} job old t n next good some few =
-    let is = good.next_in in
+    → IsNextIn steps job old t next → 1 ≤ n → n ≤ steps → IsNextIn n job old t next
+next_fewer {steps} job old t n next is some few =
     let sized = fewer_steps job old t n some few is.sized in
     record {
       some = is.some;
       sized = sized;
       small = (let small = is.small in omega arith);
+      sends = is.sends;
       is = is.is;
       stays = λ m at. turn_reached n (most_in old t) job m t sized at.graph at.reached;
       few = λ m at. few_after job m t sized at.graph at.reached at.few;
-      answered = λ m at. never_refused job m t (next_of job m t) sized at.graph good.sends
+      answered = λ m at. never_refused job m t (next_of job m t) sized at.graph is.sends
           at.reached refl;
     }
 
 -- what the task asks of its phaser by fewer steps
 pub asks_fewer : {allowed : ℕ} (job : Job) (old : Machine) (t k number p steps n : ℕ)
-    (state : TaskState) → IsNextGood allowed job old t (turns.waits k)
+    (state : TaskState) → IsNextIn allowed job old t (turns.waits k)
     → AsksFirst allowed job old t k number p steps state → 1 ≤ n → n ≤ steps
     → AsksFirst n job old t k number p n state
 asks_fewer {allowed} job old t k number p steps n state good asks some few =
@@ -206,15 +207,6 @@ asks_fewer {allowed} job old t k number p steps n state good asks some few =
 
 -- ---- the turn
 
--- a turn that made an event and told that the task moved
-pub had_good : {steps : ℕ} (job : Job) (old new : Machine) (t p : ℕ)
-    → MaySize job.graph t steps (most_in old t)
-    → HadTurn steps job old new t (Event p turned.Moved) → HasMoved job old new t
-had_good {steps} job old new t p sized had =
-    had_moved job old new t p turned.Moved sized had (λ m at.
-    ap is_plain (turn_told_so steps (most_in old t) job m t (Event p turned.Moved) turned.Moved
-    (had.shows m at) refl))
-
 -- values in range are told as a move
 pub moved_told : (p phase : ℕ) (outcomes : List Outcome)
     → position_from is_too_big phase outcomes ≡ None → answers.Moved ≡ told_got p phase outcomes
@@ -223,7 +215,7 @@ moved_told p phase outcomes none = rw none refl
 -- a task whose own phase has a value too big stands before it
 pub first_stands : {allowed : ℕ} (job : Job) (old : Machine) (m : Moment)
     (t k number p steps phase : ℕ) (state : TaskState)
-    → IsNextGood allowed job old t (turns.waits k)
+    → IsNextIn allowed job old t (turns.waits k)
     → AsksFirst allowed job old t k number p steps state → 1 ≤ steps → IsMachineAt job m old
     → wait_block_reply (limits_at job p) (m.history p) number 1 ≡ Ok (block.Values phase 1)
     → slice_range (stream_of (value_at job p) (m.history p)) phase (phase + 1)
@@ -235,8 +227,8 @@ first_stands {allowed} job old m t k number p steps phase state good asks some a
     let law = block_answers_law (value_at job p) (limits_at job p) (m.history p) number 1 phase 1
     reply in
     let answer : turn_up_to 1 1 job m t ≡ makes (first_wait t k p number (outcome.TooBig ∷ [])) =
-    ap (answer_up_to 1 1 job m t) (good.next_in.is m at)
-    ∙ sym (ap (answer_up_to 1 (most_in old t) job m t) (good.next_in.is m at))
+    ap (answer_up_to 1 1 job m t) (good.is m at)
+    ∙ sym (ap (answer_up_to 1 (most_in old t) job m t) (good.is m at))
     ∙ first_so job old m t k number p 1 state one at
     ∙ ap (block_answer (λ phase count. first_wait t k p number
     (slice_range (stream_of (value_at job p) (m.history p)) phase (phase + count)))) reply
@@ -343,27 +335,11 @@ first_room {allowed} job old m t k number p steps phase count got state asks at 
     ∙ ap (block_answer (λ phase count. first_wait t k p number
     (slice_range (stream_of (value_at job p) (m.history p)) phase (phase + count)))) would.reply_is in
     let all = room k p number whole state (asks.next.is m at) answer asks.found sink line read in
-    let few = in_range-few whole in
+    let few = good-few whole in
     let is : count ≡ length (take_while is_not_too_big whole) = would.count_is in
     omega arith)
 
 -- ---- as the code has them
-
--- a machine is its parts
-pub machine_same : (a b : Machine) → a.cores ≡ b.cores → a.tasks ≡ b.tasks → a.lines ≡ b.lines
-    → a ≡ b
-machine_same a b cores tasks lines = λ i. record {
-  cores = cores i;
-  tasks = tasks i;
-  lines = lines i;
-}
-
--- the only value of a list
-pub only_one : (xs ys : List Outcome) (d : Outcome) → take 1 xs ≡ ys → length ys ≡ 1
-    → ys ≡ get_or xs 0 d ∷ []
-only_one [] ys d same one =
-    absurd (let none : 0 ≡ length ys = ap length same in omega arith)
-only_one (x ∷ xs) ys d same one = sym same
 
 -- a block that is asked for has a phase
 pub block_some_of : {allowed : ℕ} (job : Job) (old : Machine) (m : Moment) (t k number p steps : ℕ)
@@ -377,8 +353,226 @@ block_some_of {allowed} job old m t k number p steps state asks at =
     let is = asks.many m at in
     omega arith
 
--- the history after a wait that got some values
-pub after_some : (phase count n : ℕ) (h : History) → 0 < count
-    → after_in_range (Ok (block.Values phase count)) n h ≡ Waited n count ∷ h
-after_some phase zero n h some = absurd (omega arith)
-after_some phase (suc c) n h some = refl
+-- ---- what is ahead of a wait
+
+-- a block that tells no value too big
+told_none : (m : Moment) (p n phase : ℕ) (outcomes : List Outcome)
+    → phase ≡ wait_phase (m.history p) n → position_from is_too_big phase outcomes ≡ None
+    → is_plain (Some (told_wait m p n outcomes)) ≡ true
+told_none m p n phase outcomes same none =
+    subst (λ w. is_plain (Some (told_got p w outcomes)) ≡ true) same (rw none refl)
+
+-- what a wait got by its event
+abbrev outcomes_in : Answer → List Outcome
+outcomes_in (makes (first_wait t k p n outcomes)) = outcomes
+outcomes_in answer = []
+
+module _ {allowed : ℕ} (job : Job) (old : Machine) (t k number p steps : ℕ) (state : TaskState)
+    (asks : AsksFirst allowed job old t k number p steps state)
+  where
+    -- what the phaser answers to the question
+    abbrev pub Told : Result GotBlock WaitRefusal → Type 0
+    Told told = (m : Moment) → IsMachineAt job m old
+        → before_too_big (stream_of (value_at job p) (m.history p))
+        (wait_block_reply (limits_at job p) (m.history p) number steps) ≡ told
+
+    allowed_some : 1 ≤ allowed
+    allowed_some =
+        (asks.next.sized (first_waits_at job old asks.next.some.0 t k state asks.next
+        asks.next.some.1 asks.found).there).block.some
+
+    pub wait_before : (phase : ℕ) → Told (Ok (block.Values phase 0)) → (m : Moment)
+        → IsMachineAt job m old → stands_before job m t ≡ Some (place.Phaser p, phase)
+    wait_before phase told m at =
+        let none = none_good (value_at job p) (limits_at job p) (m.history p) number steps phase
+        (told m at) in
+        first_stands job old m t k number p steps phase state asks.next asks
+        (block_some_of job old m t k number p steps state asks at) at none.0 none.1
+
+    pub wait_refused : (r : WaitRefusal) → Told (Err r) → IsGoodSize allowed allowed job old t
+    wait_refused r told = all_steps job old t allowed_some (λ m at.
+        (let event = λ (phase count : ℕ). first_wait t k p number
+        (slice_range (stream_of (value_at job p) (m.history p)) phase (phase + count)) in
+        let reply = would_refuse (stream_of (value_at job p) (m.history p))
+        (wait_block_reply (limits_at job p) (m.history p) number steps) r (told m at) in
+        let answer : turn_in allowed job old m t ≡ block_answer event (Err r) =
+        first_so job old m t k number p steps state asks at ∙ ap (block_answer event) reply in
+        subst (TellsNone job m) (sym (answer ∙ blocks_all event r (λ e.
+        asks.next.answered m at (answer ∙ e)))) refl))
+
+    pub wait_never_ended : Told (Ok block.Ended) → ⊥
+    wait_never_ended told = first_never_ended job old t k number p steps state asks (λ m at.
+        would_end (stream_of (value_at job p) (m.history p))
+        (wait_block_reply (limits_at job p) (m.history p) number steps) (told m at))
+
+    module _ (phase count : ℕ) (told : Told (Ok (block.Values phase count))) (some : 0 < count)
+      where
+        abbrev outcomes : Moment → List Outcome
+        outcomes m = slice_range (stream_of (value_at job p) (m.history p)) phase (phase + count)
+
+        would : (m : Moment) → IsMachineAt job m old
+            → WouldGet (stream_of (value_at job p) (m.history p))
+            (wait_block_reply (limits_at job p) (m.history p) number steps) phase count
+        would m at =
+            would_get (stream_of (value_at job p) (m.history p))
+            (wait_block_reply (limits_at job p) (m.history p) number steps) phase count (told m at)
+
+        are_good : (m : Moment) (at : IsMachineAt job m old)
+            → GotGood phase (would m at).all count (outcomes m)
+        are_good m at =
+            got_good (stream_of (value_at job p) (m.history p)) _ phase count (outcomes m)
+            (would m at) refl
+
+        reply : (m : Moment) → IsMachineAt job m old
+            → wait_block_reply (limits_at job p) (m.history p) number count
+            ≡ Ok (block.Values phase count)
+        reply m at =
+            good_block (stream_of (value_at job p) (m.history p)) (limits_at job p) (m.history p)
+            number steps phase count (told m at) some
+
+        few : count ≤ steps
+        few =
+            let m = asks.next.some.0 in
+            let at = asks.next.some.1 in
+            let w = would m at in
+            let tells = block_tells (limits_at job p) (m.history p) number steps phase w.all
+            w.reply_is in
+            omega (arith, (are_good m at).few, tells.count_is)
+
+        within : count ≤ allowed
+        within =
+            let m = asks.next.some.0 in
+            let is = asks.many m asks.next.some.1 in
+            omega (arith, few, block_few allowed job m t)
+
+        answer : (m : Moment) → IsMachineAt job m old
+            → turn_in count job old m t ≡ makes (first_wait t k p number (outcomes m))
+        answer m at =
+            first_so job old m t k number p count state
+            (asks_fewer job old t k number p steps count state asks.next asks some few) at
+            ∙ ap (block_answer (λ phase count. first_wait t k p number
+            (slice_range (stream_of (value_at job p) (m.history p)) phase (phase + count))))
+            (reply m at)
+
+        pub wait_size : IsGoodSize allowed count job old t
+        wait_size = record {
+          some = some;
+          few = within;
+          good = λ m at.
+              (let w = would m at in
+              let tells = block_tells (limits_at job p) (m.history p) number steps phase w.all
+              w.reply_is in
+              subst (TellsNone job m) (sym (answer m at))
+              (told_none m p number phase (outcomes m) tells.phase_is (are_good m at).none));
+          makes = λ apart m at. (first_wait t k p number (outcomes m), answer m at);
+          room = λ m at room i q n others other next is found sink.
+              (let all = got_part job m p number phase count (outcomes m) (reply m at) refl in
+              let same : outcomes m ≡ others = ap outcomes_in (sym (answer m at) ∙ is) in
+              let it : state ≡ other = same_Some state other (sym asks.found ∙ found) in
+              subst (λ l. HasRoomIn old.lines.items (length l) other.sink) same
+              (subst (λ s. HasRoomIn old.lines.items (length (outcomes m)) s.sink) it
+              (first_room job old m t k number p steps phase count (outcomes m) state asks at
+              (would m at) all.many room sink)));
+        }
+
+-- where the one value that is asked for is ahead, a wait for it gets it
+pub record IsOneAhead (stream : List Outcome) (limits : Limits) (h : History) (n phase : ℕ)
+    : Type 0 where
+  pub reply : wait_block_reply limits h n 1 ≡ Ok (block.Values phase 1)
+  pub none : position_from is_too_big phase (slice_range stream phase (phase + 1)) ≡ None
+
+pub one_ahead : (stream : List Outcome) (limits : Limits) (h : History) (n phase count : ℕ)
+    → 0 < count
+    → before_too_big stream (wait_block_reply limits h n 1) ≡ Ok (block.Values phase count)
+    → IsOneAhead stream limits h n phase
+one_ahead stream limits h n phase count some told =
+    let w = would_get stream (wait_block_reply limits h n 1) phase count told in
+    let good = got_good stream _ phase count (slice_range stream phase (phase + count)) w refl in
+    let tells = block_tells limits h n 1 phase w.all w.reply_is in
+    let few = good.few in
+    let least = tells.count_is in
+    let one : count ≡ 1 = omega arith in
+    record {
+      reply = subst (λ k. wait_block_reply limits h n k ≡ Ok (block.Values phase k)) one
+          (good_block stream limits h n 1 phase count told some);
+      none = subst (λ k. position_from is_too_big phase (slice_range stream phase (phase + k))
+          ≡ None) one good.none;
+    }
+
+-- ---- what is ahead of a peer's wait
+
+one_of_one : (xs : List Outcome) (d : Outcome) → length xs ≡ 1 → xs ≡ get_or xs 0 d ∷ []
+one_of_one [] d one = absurd (omega arith)
+one_of_one (x ∷ []) d one = refl
+one_of_one (x ∷ y ∷ xs) d one = absurd (omega arith)
+
+module _ {allowed : ℕ} (job : Job) (old : Machine) (t number p : ℕ) (state : TaskState)
+    (next : IsNextIn allowed job old t turns.exchanges)
+    (found : slice_get old.tasks.items t ≡ Some state)
+    (phaser : p ≡ input_at (task_at job.graph t) 1)
+    (numbered : number ≡ get_or state.numbers.items 1 0)
+  where
+    abbrev pub ToldOne : Result GotBlock WaitRefusal → Type 0
+    ToldOne told = (m : Moment) → IsMachineAt job m old
+        → before_too_big (stream_of (value_at job p) (m.history p))
+        (wait_block_reply (limits_at job p) (m.history p) number 1) ≡ told
+
+    some_steps : 1 ≤ allowed
+    some_steps =
+        (next.sized (exchange_waits_at job old next.some.0 t state next next.some.1
+        found).there).block.some
+
+    pub exchange_before : (phase : ℕ) → ToldOne (Ok (block.Values phase 0)) → (m : Moment)
+        → IsMachineAt job m old → stands_before job m t ≡ Some (place.Phaser p, phase)
+    exchange_before phase told m at =
+        let none = none_good (value_at job p) (limits_at job p) (m.history p) number 1 phase
+        (told m at) in
+        exchange_stands_before job old m t number p phase state next found phaser numbered at none.0
+        none.1
+
+    pub exchange_refused : (r : WaitRefusal) → ToldOne (Err r)
+        → IsGoodSize allowed allowed job old t
+    exchange_refused r told = all_steps job old t some_steps (λ m at.
+        (let reply = one_refused (value_at job p) (limits_at job p) (m.history p) number r
+        (would_refuse (stream_of (value_at job p) (m.history p))
+        (wait_block_reply (limits_at job p) (m.history p) number 1) r (told m at)) in
+        let answer : turn_in allowed job old m t ≡ wait_answer (exchange_wait t p number) (Err r) =
+        exchange_so job old m t number p state next at found phaser numbered
+        ∙ ap (wait_answer (exchange_wait t p number)) reply in
+        subst (TellsNone job m) (sym (answer ∙ blocks (exchange_wait t p number) r (λ e.
+        next.answered m at (answer ∙ e)))) refl))
+
+    pub exchange_never_ended : ToldOne (Ok block.Ended) → ⊥
+    exchange_never_ended told = never_ended job old t number p state next found phaser numbered
+        (λ m at. one_ended (value_at job p) (limits_at job p) (m.history p) number
+        (would_end (stream_of (value_at job p) (m.history p))
+        (wait_block_reply (limits_at job p) (m.history p) number 1) (told m at)))
+
+    pub exchange_size : (phase count : ℕ) → ToldOne (Ok (block.Values phase count)) → 0 < count
+        → IsGoodSize allowed allowed job old t
+    exchange_size phase count told some = all_steps job old t some_steps (λ m at.
+        (let stream = stream_of (value_at job p) (m.history p) in
+        let w = would_get stream (wait_block_reply (limits_at job p) (m.history p) number 1) phase
+        count (told m at) in
+        let outcomes = slice_range stream phase (phase + count) in
+        let good = got_good stream _ phase count outcomes w refl in
+        let tells = block_tells (limits_at job p) (m.history p) number 1 phase w.all w.reply_is in
+        let few = good.few in
+        let least = tells.count_is in
+        let one : count ≡ 1 = omega arith in
+        let reply = good_block stream (limits_at job p) (m.history p) number 1 phase count
+        (told m at) some in
+        let all = got_part job m p number phase count outcomes reply refl in
+        let x = get_or outcomes 0 outcome.Empty in
+        let many : length outcomes ≡ 1 = all.many ∙ one in
+        let is : outcomes ≡ x ∷ [] = one_of_one outcomes outcome.Empty many in
+        let slice : slice_range stream phase (phase + 1) ≡ x ∷ [] =
+        ap (λ n. slice_range stream phase (phase + n)) (sym one) ∙ is in
+        let answer : turn_in allowed job old m t ≡ makes (exchange_wait t p number x) =
+        exchange_so job old m t number p state next at found phaser numbered
+        ∙ ap (wait_answer (exchange_wait t p number)) (one_is (value_at job p) (limits_at job p)
+        (m.history p) number phase x (subst (λ n. wait_block_reply (limits_at job p) (m.history p)
+        number n ≡ Ok (block.Values phase n)) one reply) slice) in
+        subst (TellsNone job m) (sym answer)
+        (told_none m p number phase (x ∷ []) tells.phase_is
+        (ap (position_from is_too_big phase) (sym is) ∙ good.none))))

@@ -17,9 +17,11 @@ use Rattle.graph_runs.proofs.Signalling.{live-is}
 use Rattle.graph_runs.proofs.Standing.{kept}
 use Rattle.graph_runs.proofs.TurnRegistering.{is_for}
 use Rattle.stream_job.specs.Places.{place_in_state}
-use Rattle.stream_job.specs.Machines.{IsMachineAt, most_in}
+use Rattle.stream_job.specs.Machines.{IsMachineAt, most_in, next_by}
 use Rattle.stream_job.specs.Stepping.{IsNextIn}
 use Rattle.stream_job.specs.declared.machine.Machine.{Machine}
+use Rattle.stream_job.specs.declared.step.Step.{Step}
+use Rattle.stream_job.specs.declared.step.Step.TheVariants as step
 use Rattle.stream_job.specs.declared.task_state.TaskState.{TaskState}
 use Rattle.stream_job.proofs.Ending.{all_numbered, number-at}
 use Rattle.stream_job.proofs.Reading.{live_by}
@@ -34,6 +36,16 @@ live_next job m t next is never = by (is_live job m t) refl is
         → is_live job m t ≡ true
     by true e is = e
     by false e is = absurd (never (sym is))
+
+-- a step that is one
+pub makes_one : (it : Step) → it ≢ step.NotLive → next_by it ≢ is_not_live
+makes_one step.NotLive never = λ e. absurd (never (cc))
+makes_one (step.Register child) never = λ e. (cc)
+makes_one step.Leave never = λ e. (cc)
+makes_one step.Sample never = λ e. (cc)
+makes_one (step.Signal output) never = λ e. (cc)
+makes_one (step.Wait input) never = λ e. (cc)
+makes_one step.Exchange never = λ e. (cc)
 
 -- a registration of a task is on a phaser
 pub phaser_there : (job : Job) (t k : ℕ) → IsGraph job.graph → t < length job.graph.tasks

@@ -122,6 +122,18 @@ first_over (z ∷ zs) (r ∷ rs) a b k e found =
               ∙ r.found ∙ ap (λ n. Some n) next;
         }
 
+-- where none of the ranges is over, none is out of range
+pub none_over : (zs : List ℤ) (rs : List (Result ℤ TooBigValue)) (a b : ℕ) → map ranged zs ≡ rs
+    → position_from is_value_out a rs ≡ None → position_from is_out_of_range b zs ≡ None
+none_over [] rs a b e none = refl
+none_over (z ∷ zs) [] a b e none = absurd (cc)
+none_over (z ∷ zs) (Err out ∷ rs) a b e none = absurd (cc)
+none_over (z ∷ zs) (Ok x ∷ rs) a b e none =
+    let both = cons_parts (ranged z) (Ok x) (map ranged zs) rs e in
+    let i = in_range z x both.0 in
+    ap (λ c. cond c (Some b) (position_from is_out_of_range (b + 1) zs))
+    (ap is_out_of_range i.0 ∙ i.1) ∙ none_over zs rs (a + 1) (b + 1) both.1 none
+
 -- ---- whether all are in range
 
 -- where all ranges are good no value is out of range, and else one is

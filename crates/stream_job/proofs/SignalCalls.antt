@@ -19,14 +19,15 @@ use Rattle.graph_runs.specs.Turned.{with_at}
 use Rattle.graph_runs.specs.Nexts.{Next, number_on}
 use Rattle.graph_runs.specs.TaskEvents.{TaskEvent, after_turn}
 use Rattle.graph_runs.specs.Answers as answers
-use Rattle.graph_runs.specs.Answers.{Answer, makes, is_blocked, is_refused, after_answer, signal_answer, signal_turn, call_signal, output_at, told_event, answer_up_to, values_up_to, samples_up_to}
+use Rattle.graph_runs.specs.Answers.{Answer, makes, is_blocked, is_refused, after_answer, signal_answer, signal_turn, call_signal, output_at, told_event, answer_up_to, turn_up_to, values_up_to, samples_up_to}
 use Rattle.graph_runs.specs.TaskPlaces.{child_of}
 use Rattle.stream_job.specs.Blocking.{called_on}
 use Rattle.stream_job.specs.Stepping.{IsNextIn}
 use Rattle.stream_job.specs.Machines.{IsMachineAt, HasCores, KeepsLines}
 use Rattle.stream_job.specs.Places.{IsTaskAt}
-use Rattle.stream_job.specs.Turning.{HadTurn, MadeShows, phaser_of, turn_in}
+use Rattle.stream_job.specs.Turning.{HadTurn, HadTurnBy, MadeShows, phaser_of, turn_in}
 use Rattle.stream_job.specs.declared.machine.Machine.{Machine}
+use Rattle.stream_job.specs.declared.made.Made.{Made}
 use Rattle.stream_job.specs.declared.made.Made.TheVariants.{Event, Blocked}
 use Rattle.stream_job.specs.declared.task_state.TaskState.{TaskState}
 use Rattle.stream_job.specs.declared.turned.Turned.TheVariants.{Moved}
@@ -34,6 +35,22 @@ use Rattle.stream_job.proofs.Events.{after_own, unchanged}
 use Rattle.stream_job.proofs.Mosts.{mosts_same, mosts_set}
 use Rattle.stream_job.proofs.LinesAfter.{quiet_lines, same_lines, same_rooms}
 use Rattle.stream_job.proofs.SinksKeep.{NoSinkWaits}
+
+-- the same turn by other sizes
+pub had_same : {steps most steps' most' : ℕ} (job : Job) (old new : Machine) (t : ℕ) (it : Made)
+    → ((m : Moment) → IsMachineAt job m old
+    → turn_up_to steps' most' job m t ≡ turn_up_to steps most job m t)
+    → HadTurnBy steps most job old new t it → HadTurnBy steps' most' job old new t it
+had_same job old new t it same had = record {
+  shows = λ m at. subst (λ a. MadeShows job m t a it) (sym (same m at)) (had.shows m at);
+  after = λ m at none. subst (λ a. IsMachineAt job (after_answer job a m) new) (sym (same m at))
+      (had.after m at none);
+  lines = λ given m at none kept.
+      subst (λ a. KeepsLines job given (after_answer job a m) new.lines.items) (sym (same m at))
+      (had.lines given m at none kept);
+  own = had.own;
+  mosts = had.mosts;
+}
 
 -- ---- a call that the phaser would not take now
 

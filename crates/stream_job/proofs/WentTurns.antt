@@ -1,6 +1,7 @@
 -- The turn of a task that takes no value out of range, by what a turn of these sizes did.
-use Rattle.std.proofs.Common.{◌≡◌, ◌≢◌, ℕ, ℤ, List, ◌+◌, ◌||◌, Bool, true, false, cond, Option, Some, None, length, map, refl, sym, ap, subst, ◌∙◌, arith}
+use Rattle.std.proofs.Common.{◌≡◌, ◌≢◌, ℕ, ℤ, List, ◌+◌, ◌≤◌, ◌||◌, Bool, true, false, cond, Option, Some, None, length, map, refl, sym, ap, subst, ◌∙◌, arith, ⊎_elim}
 use Rattle.std.specs.List.{position_from}
+use Rattle.std.proofs.lemmas.Bool.{cases_eq}
 use Rattle.phase_history.specs.declared.refusal.SignalRefusal.{SignalRefusal}
 use Rattle.phase_history.specs.declared.refusal.SignalRefusal.TheVariants as refusals
 use Rattle.phase_history.specs.Histories.{greatest_used}
@@ -11,19 +12,18 @@ use Rattle.graph_base.specs.declared.registration.Registration.{Registration}
 use Rattle.graph_base.specs.Graphs.{task_at, phaser_at}
 use Rattle.stream_lists.specs.Jobs.{Job}
 use Rattle.stream_lists.specs.Ranges.{are_made, is_out_of_range}
-use Rattle.graph_runs.specs.Answers as answers
-use Rattle.graph_runs.specs.Answers.{Answer, Told, Moved, Ended, TooBig, accepted_answer, after_answer, answer_up_to, call_leave, call_register, has_made, is_blocked, is_gone, is_refused, makes, output_at, register_answer, samples_up_to, signal_answer, signal_turn, tells_up_to, turn_up_to, values_up_to, was_blocked, word_of_answer}
+use Rattle.graph_runs.specs.Answers.{Answer, Moved, Ended, accepted_answer, after_answer, answer_up_to, call_leave, call_register, has_made, is_blocked, is_gone, is_refused, makes, output_at, register_answer, samples_up_to, signal_answer, signal_turn, turn_up_to, was_blocked}
 use Rattle.graph_runs.specs.Moments.{one, Moment, limits_at}
 use Rattle.graph_runs.specs.NextBlocks.{MaySize}
 use Rattle.graph_runs.specs.Nexts as nexts
 use Rattle.graph_runs.specs.Nexts.{Next, at_boundary, first_due, first_kept, first_missing, first_owed, has_input_ended, is_cut, is_live, next_of, next_step, number_on, of_live, waits_first}
 use Rattle.graph_runs.specs.TaskEvents as events
 use Rattle.graph_runs.specs.TaskEvents.{TaskEvent, after_turn}
-use Rattle.stream_job.specs.InRange.{HasGone, HasMoved, HasStayed, is_blocked_before, went_by}
+use Rattle.stream_job.specs.InRange.{HasGone, HasMoved, HasStayed, IsGoodSize, TellsNone, is_blocked_before, is_plain, went_by}
 use Rattle.stream_job.specs.Machines.{IsMachine, IsMachineAt, KeepsLines, most_in}
 use Rattle.stream_job.specs.Places.{place_in_state}
 use Rattle.stream_job.specs.Stepping.{IsNextIn, is_at_rest, would_block}
-use Rattle.stream_job.specs.Turning.{HadTurn, MadeShows, turn_in}
+use Rattle.stream_job.specs.Turning.{HadTurn, HadTurnBy, MadeShows, turn_in}
 use Rattle.stream_job.specs.declared.machine.Machine.{Machine}
 use Rattle.stream_job.specs.declared.made.Made.{Made}
 use Rattle.stream_job.specs.declared.made.Made.TheVariants as made
@@ -34,16 +34,6 @@ use Rattle.stream_job.proofs.Stalling.{all_blocks}
 use Rattle.graph_runs.proofs.Signalling.{live-is}
 
 -- ---- who tells no value out of range
-
--- whether it is told that the task moved or was blocked, or nothing
-abbrev pub is_plain : Option Told → Bool
-is_plain (Some (TooBig at)) = false
-is_plain (Some answers.Gone) = false
-is_plain told = true
-
--- of this answer it is
-abbrev pub TellsNone : Job → Moment → Answer → Type 0
-TellsNone job m answer = is_plain (word_of_answer job m answer) ≡ true
 
 signals_none : (job : Job) (m : Moment) (event : TaskEvent) (o : Option SignalRefusal)
     → TellsNone job m (makes event) → TellsNone job m (signal_answer event o)
@@ -140,16 +130,16 @@ quiet_none steps most job m t nexts.exchanges quiet = absurd quiet
 -- ---- what the machine did
 
 -- a turn that made an event, and told no value out of range
-pub had_moved : {steps : ℕ} (job : Job) (old new : Machine) (t p : ℕ) (told : Turned)
-    → MaySize job.graph t steps (most_in old t)
-    → HadTurn steps job old new t (made.Event p told)
-    → ((m : Moment) → IsMachineAt job m old → TellsNone job m (turn_in steps job old m t))
+pub had_moved : {steps most : ℕ} (job : Job) (old new : Machine) (t p : ℕ) (told : Turned)
+    → MaySize job.graph t steps most
+    → HadTurnBy steps most job old new t (made.Event p told)
+    → ((m : Moment) → IsMachineAt job m old → TellsNone job m (turn_up_to steps most job m t))
     → HasMoved job old new t
-had_moved {steps} job old new t p told sized had none = record {
+had_moved {steps} {most} job old new t p told sized had none = record {
   steps = steps;
-  most = most_in old t;
+  most = most;
   sized = sized;
-  moves = λ m at. event_of m (turn_in steps job old m t) (had.shows m at);
+  moves = λ m at. event_of m (turn_up_to steps most job m t) (had.shows m at);
   good = λ m there at told.
       (let wrong : false ≡ true = sym (ap is_plain told) ∙ none m at in cc);
   after = had.after;
@@ -289,17 +279,12 @@ gone_stays job old t gone = record {
   own = λ room all. all;
 }
 
--- a turn that made an event or was blocked, of a call that tells no value out of range
-pub had_gone : {steps : ℕ} (job : Job) (old new : Machine) (t : ℕ) (it : Made)
-    → MaySize job.graph t steps (most_in old t) → IsMachine job old
-    → HadTurn steps job old new t it
-    → ((m : Moment) → IsMachineAt job m old → TellsNone job m (turn_in steps job old m t))
-    → HasGone steps job old new t (went_by it)
-had_gone job old new t (made.Event p told) sized some had none =
-    had_moved job old new t p told sized had none
-had_gone job old new t (made.Blocked p) sized some had none = had_stayed job old new t p had
-had_gone {steps} job old new t (made.OutOfRange step) sized some had none =
-    absurd (by (turn_in steps job old some.0 t) (had.shows some.0 some.1) (none some.0 some.1))
+-- a turn that tells no value out of range met none, and its task was live
+pub never_out : {steps most : ℕ} (job : Job) (old new : Machine) (t step : ℕ) → IsMachine job old
+    → HadTurnBy steps most job old new t (made.OutOfRange step)
+    → ((m : Moment) → IsMachineAt job m old → TellsNone job m (turn_up_to steps most job m t)) → ⊥
+never_out {steps} {most} job old new t step some had none =
+    by (turn_up_to steps most job some.0 t) (had.shows some.0 some.1) (none some.0 some.1)
   where
     by : (answer : Answer) → MadeShows job some.0 t answer (made.OutOfRange step)
         → TellsNone job some.0 answer → ⊥
@@ -308,8 +293,12 @@ had_gone {steps} job old new t (made.OutOfRange step) sized some had none =
     by is_gone shows quiet = shows
     by (has_made at) shows quiet = (let wrong : false ≡ true = quiet in cc)
     by is_refused shows quiet = shows
-had_gone {steps} job old new t made.Nothing sized some had none =
-    absurd (by (turn_in steps job old some.0 t) (had.shows some.0 some.1) (none some.0 some.1))
+
+pub never_gone : {steps most : ℕ} (job : Job) (old new : Machine) (t : ℕ) → IsMachine job old
+    → HadTurnBy steps most job old new t made.Nothing
+    → ((m : Moment) → IsMachineAt job m old → TellsNone job m (turn_up_to steps most job m t)) → ⊥
+never_gone {steps} {most} job old new t some had none =
+    by (turn_up_to steps most job some.0 t) (had.shows some.0 some.1) (none some.0 some.1)
   where
     by : (answer : Answer) → MadeShows job some.0 t answer made.Nothing
         → TellsNone job some.0 answer → ⊥
@@ -319,11 +308,42 @@ had_gone {steps} job old new t made.Nothing sized some had none =
     by (has_made at) shows quiet = shows
     by is_refused shows quiet = shows
 
--- of a call that is quiet
-pub had_quiet : {steps : ℕ} (job : Job) (old new : Machine) (t : ℕ) (it : Made) (next : Next)
-    → IsNextIn steps job old t next → IsQuiet job t next → HadTurn steps job old new t it
-    → HasGone steps job old new t (went_by it)
-had_quiet {steps} job old new t it next is quiet had =
-    had_gone job old new t it is.sized is.some had
+-- a turn of a size that tells no value out of range
+pub had_sized : {steps n : ℕ} (job : Job) (old new : Machine) (t : ℕ) (it : Made)
+    → IsGoodSize steps n job old t → MaySize job.graph t n (most_in old t) → IsMachine job old
+    → HadTurn n job old new t it → HasGone steps job old new t (went_by it)
+had_sized job old new t (made.Event p told) size sized some had =
+    had_moved job old new t p told sized had size.good
+had_sized {steps} {n} job old new t (made.Blocked p) size sized some had =
+    ⊎_elim
+    (λ (same : n ≡ steps). subst (λ k. HasStayed k job old new t) same
+    (had_stayed job old new t p had))
+    (λ (apart : n ≢ steps).
+    let makes_it = size.makes apart some.0 some.1 in
+    absurd (subst (λ a. MadeShows job some.0 t a (made.Blocked p)) makes_it.1
+    (had.shows some.0 some.1))) (cases_eq n steps)
+had_sized job old new t (made.OutOfRange step) size sized some had =
+    absurd (never_out job old new t step some had size.good)
+had_sized job old new t made.Nothing size sized some had =
+    absurd (never_gone job old new t some had size.good)
+
+-- all steps that a task may make are a size, where they tell no value out of range
+pub all_steps : {steps : ℕ} (job : Job) (old : Machine) (t : ℕ) → 1 ≤ steps
+    → ((m : Moment) → IsMachineAt job m old → TellsNone job m (turn_in steps job old m t))
+    → IsGoodSize steps steps job old t
+all_steps job old t some good = record {
+  some = some;
+  few = omega arith;
+  good = good;
+  makes = λ apart. absurd (apart refl);
+  room = λ m at room. room;
+}
+
+-- they are where the call is quiet
+pub quiet_steps : {steps : ℕ} (job : Job) (old : Machine) (t : ℕ) (next : Next)
+    → IsNextIn steps job old t next → IsQuiet job t next → 1 ≤ steps
+    → IsGoodSize steps steps job old t
+quiet_steps {steps} job old t next is quiet some =
+    all_steps job old t some
     (λ m at. subst (λ n. TellsNone job m (answer_up_to steps (most_in old t) job m t n))
     (sym (is.is m at)) (quiet_none steps (most_in old t) job m t next quiet))

@@ -1,17 +1,19 @@
 -- Turns that take no value out of range, and where a task stands before one.
-use Rattle.std.specs.Prelude.{◌≡◌, ◌≢◌, ℕ, suc, ℤ, List, Option, Some, None, Bool, true, false, ◌||◌, length, drop}
+use Rattle.std.specs.Prelude.{◌≡◌, ◌≢◌, ◌≤◌, ℕ, suc, ℤ, List, Option, Some, None, Bool, true, false, ◌||◌, length, drop}
 use Rattle.std.specs.List.{All, position_from}
-use Rattle.phase_accum.specs.Sends.{AreSends}
 use Rattle.graph_base.specs.Graphs.{task_at}
-use Rattle.stream_lists.specs.Jobs.{Job, samples_at, with_samples}
+use Rattle.stream_lists.specs.Jobs.{Job}
 use Rattle.stream_lists.specs.Ranges.{Where, is_out_of_range}
-use Rattle.graph_runs.specs.Answers.{Told, TooBig, after_answer, answer_up_to, makes, tells_up_to, turn_up_to, was_blocked}
+use Rattle.graph_runs.specs.Answers.{Answer, Gone, Told, TooBig, after_answer, answer_up_to, makes, tells_up_to, turn_up_to, was_blocked, word_of_answer}
 use Rattle.graph_runs.specs.Moments.{Moment, HasAnsweredNone, made_now}
 use Rattle.graph_runs.specs.NextBlocks.{MaySize}
 use Rattle.graph_runs.specs.Nexts.{Next, next_of, signals}
 use Rattle.graph_runs.specs.TaskEvents.{TaskEvent}
-use Rattle.stream_job.specs.Machines.{HasRoom, IsMachineAt, KeepsLines}
-use Rattle.stream_job.specs.Stepping.{IsNextIn, is_at_rest}
+use Rattle.stream_job.specs.Machines.{HasRoom, IsMachineAt, KeepsLines, most_in}
+use Rattle.stream_job.specs.Stepping.{HasRoomAt, OwesMade, is_at_rest}
+use Rattle.stream_job.specs.Turning.{turn_in}
+use Rattle.stream_job.specs.declared.ahead.Ahead.{Ahead}
+use Rattle.stream_job.specs.declared.ahead.Ahead.TheVariants as ahead
 use Rattle.stream_job.specs.declared.machine.Machine.{Machine}
 use Rattle.stream_job.specs.declared.made.Made.{Made}
 use Rattle.stream_job.specs.declared.made.Made.TheVariants as made
@@ -104,19 +106,40 @@ HasGone steps job old new t went.On = HasMoved job old new t
 HasGone steps job old new t went.Stays = HasStayed steps job old new t
 HasGone steps job old new t (went.Before place phase) = HasHalted job old new t (place, phase)
 
--- this is what task t does next, by a turn of at most so many steps, and its samples can be sent
-pub record IsNextGood (steps : ℕ) (job : Job) (machine : Machine) (t : ℕ) (next : Next) : Type 0
-  where
-    pub next_in : IsNextIn steps job machine t next
-    pub sends : AreSends (samples_at job t)
+-- ---- what is ahead
 
--- with some samples
-abbrev pub MayGo : Job → Machine → ℕ → Next → Type 0
-MayGo job machine t next =
-    (s : List (List ℤ)) × (steps : ℕ) × IsNextGood steps (with_samples s job) machine t next
+-- whether it is told that the task moved or was blocked, or nothing
+abbrev pub is_plain : Option Told → Bool
+is_plain (Some (TooBig at)) = false
+is_plain (Some Gone) = false
+is_plain told = true
 
--- with whatever samples this is what it did next, it went so
-abbrev pub GoesSo : Job → Machine → Machine → ℕ → Next → Went → Type 0
-GoesSo job old new t next it = (s : List (List ℤ)) (steps : ℕ)
-    → IsNextGood steps (with_samples s job) old t next
-    → HasGone steps (with_samples s job) old new t it
+-- of this answer it is
+abbrev pub TellsNone : Job → Moment → Answer → Type 0
+TellsNone job m answer = is_plain (word_of_answer job m answer) ≡ true
+
+-- a turn of so many steps, of those that task t may make, tells no value out of range; where it has
+-- fewer, it makes an event, and where the line of a sink has room for all, it has room for these
+pub record IsGoodSize (steps n : ℕ) (job : Job) (machine : Machine) (t : ℕ) : Type 0 where
+  pub some : 1 ≤ n
+  pub few : n ≤ steps
+  pub good : (m : Moment) → IsMachineAt job m machine → TellsNone job m (turn_in n job machine m t)
+  pub makes : n ≢ steps → (m : Moment) → IsMachineAt job m machine
+      → (event : TaskEvent) × (turn_in n job machine m t ≡ makes event)
+  pub room : (m : Moment) → IsMachineAt job m machine → HasRoomAt steps job machine t m
+      → HasRoomAt n job machine t m
+
+-- task t, a filter, has made so many values before one that is out of range, and signals next
+pub record IsGoodPart (many : ℕ) (job : Job) (machine : Machine) (t : ℕ) : Type 0 where
+  pub some : 1 ≤ many
+  pub few : many ≤ most_in machine t
+  pub owes : OwesMade machine t
+  pub next : (m : Moment) → IsMachineAt job m machine → next_of job m t ≡ signals 0
+  pub good : (m : Moment) → IsMachineAt job m machine → good_many job m t 0 ≡ Some many
+
+-- what task t may do, of at most so many steps, that takes no value out of range
+abbrev pub IsAhead : ℕ → Job → Machine → ℕ → Ahead → Type 0
+IsAhead steps job machine t (ahead.Steps n) = IsGoodSize steps n job machine t
+IsAhead steps job machine t (ahead.Values many) = IsGoodPart many job machine t
+IsAhead steps job machine t (ahead.Before place phase) =
+    (m : Moment) → IsMachineAt job m machine → stands_before job m t ≡ Some (place, phase)

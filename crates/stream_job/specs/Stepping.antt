@@ -12,7 +12,8 @@ use Rattle.phase_base.specs.declared.entry.Entry.{Entry}
 use Rattle.phase_base.specs.Members.{entry_of, least, wait_phases}
 use Rattle.phase_history.specs.Histories.{History, members_of, done_of}
 use Rattle.phase_history.specs.Refusals.{is_ahead, register_refusal, register_now_refusal}
-use Rattle.stream_lists.specs.Jobs.{Job, with_samples}
+use Rattle.phase_accum.specs.Sends.{AreSends}
+use Rattle.stream_lists.specs.Jobs.{Job, samples_at, with_samples}
 use Rattle.graph_runs.specs.Moments.{Moment, limits_at, made_now}
 use Rattle.graph_runs.specs.Nexts.{Next, has_signaller, is_live, next_of, number_on, waits}
 use Rattle.graph_runs.specs.TaskPlaces.{Owed, nothing, values, exchange}
@@ -118,13 +119,14 @@ owed_many (exchange x) = 0
 abbrev pub MayStep : Job → Machine → ℕ → ℕ → Type 0
 MayStep job machine t steps = MaySize job.graph t steps (most_in machine t)
 
--- at each moment of the machine this is what task t does next, which may make so many steps, and
--- its phaser does not refuse it
+-- at each moment of the machine this is what task t does next, which may make so many steps, its
+-- samples can be sent, and its phaser does not refuse it
 pub record IsNextIn (steps : ℕ) (job : Job) (machine : Machine) (t : ℕ) (next : turns.Next)
     : Type 0 where
   pub some : IsMachine job machine
   pub sized : MayStep job machine t steps
   pub small : steps ≤ most_steps job t
+  pub sends : AreSends (samples_at job t)
   pub is : (m : Moment) → IsMachineAt job m machine → turns.next_of job m t ≡ next
   pub stays : (m : Moment) → IsMachineAt job m machine
       → IsReachable job (after_answer job (turn_in steps job machine m t) m)

@@ -67,21 +67,27 @@ MadeShows job m t answer it = ⊥
 abbrev pub turn_in : ℕ → Job → Machine → Moment → ℕ → Answer
 turn_in steps job machine m t = turn_up_to steps (most_in machine t) job m t
 
--- the machine had a turn of task t of at most so many steps, of which the code tells so: at each
--- moment that the machine stood for it tells the answer of the table, and the machine stands for
--- the moment after, where no wait was answered a value too big before. The lines have kept what the
--- sinks received, and have the room that they had, and each task signals as much in one event
-pub record HadTurn (steps : ℕ) (job : Job) (old new : Machine) (t : ℕ) (it : Made) : Type 0 where
-  pub shows : (m : Moment) → IsMachineAt job m old
-      → MadeShows job m t (turn_in steps job old m t) it
-  pub after : (m : Moment) → IsMachineAt job m old → HasAnsweredNone job m
-      → IsMachineAt job (after_answer job (turn_in steps job old m t) m) new
-  pub lines : (given : ℕ → List ℤ) (m : Moment) → IsMachineAt job m old → HasAnsweredNone job m
-      → KeepsLines job given m old.lines.items
-      → KeepsLines job given (after_answer job (turn_in steps job old m t) m) new.lines.items
-  pub own : (room : ℕ → ℕ) → All (HasRoom room) old.lines.items
-      → All (HasRoom room) new.lines.items
-  pub mosts : (u : ℕ) → most_in new u ≡ most_in old u
+-- the machine had a turn of task t of at most so many steps, or of so many of the values that it
+-- owes, of which the code tells so: at each moment that the machine stood for it tells the answer of
+-- the table, and the machine stands for the moment after, where no wait was answered a value too big
+-- before. The lines have kept what the sinks received, and have the room that they had, and each
+-- task signals as much in one event
+pub record HadTurnBy (steps most : ℕ) (job : Job) (old new : Machine) (t : ℕ) (it : Made) : Type 0
+  where
+    pub shows : (m : Moment) → IsMachineAt job m old
+        → MadeShows job m t (turn_up_to steps most job m t) it
+    pub after : (m : Moment) → IsMachineAt job m old → HasAnsweredNone job m
+        → IsMachineAt job (after_answer job (turn_up_to steps most job m t) m) new
+    pub lines : (given : ℕ → List ℤ) (m : Moment) → IsMachineAt job m old
+        → HasAnsweredNone job m → KeepsLines job given m old.lines.items
+        → KeepsLines job given (after_answer job (turn_up_to steps most job m t) m) new.lines.items
+    pub own : (room : ℕ → ℕ) → All (HasRoom room) old.lines.items
+        → All (HasRoom room) new.lines.items
+    pub mosts : (u : ℕ) → most_in new u ≡ most_in old u
+
+-- of as much as one event of the task signals
+abbrev pub HadTurn : ℕ → Job → Machine → Machine → ℕ → Made → Type 0
+HadTurn steps job old new t it = HadTurnBy steps (most_in old t) job old new t it
 
 -- ---- a world
 

@@ -1,11 +1,11 @@
 //! The calls of a task on its phasers.
-ghost use Rattle.std.specs.Prelude.{◌≡◌, ◌≢◌, ◌<◌, ◌≤◌, ◌+◌, ℕ, [], ◌∷◌, length, map, take, slice_range, Some, None, Ok, IfOk, IfErr, OnOk, OnErr};
+ghost use Rattle.std.specs.Prelude.{◌≡◌, ◌≢◌, ◌<◌, ◌≤◌, ℕ, ◌∷◌, length, map, take, Some, None, Ok, IfOk, IfErr, OnOk, OnErr};
 ghost use Rattle.phase_accum.specs.Sends.{AreSends};
 ghost use Rattle.phase_accum.specs.Values.{value_by};
 ghost use Rattle.phase_history.specs.declared.event.Event.TheVariants.{Dropped, Registered, RegisteredNow};
 ghost use Rattle.phase_history.specs.Histories.{History, done_of};
 ghost use Rattle.phase_history.specs.Phases.{stream_of};
-ghost use Rattle.phase_core.specs.Blocks.{written, before_too_big, after_in_range};
+ghost use Rattle.phase_core.specs.Blocks.{written, before_too_big};
 ghost use Rattle.phase_history.specs.Refusals.{drop_refusal, register_refusal, register_now_refusal};
 ghost use Rattle.phase_history.specs.Replies.{signal_reply, wait_reply, wait_block_reply, after_signal, after_wait, after_wait_block};
 ghost use Rattle.graph_base.specs.Graphs.{phaser_at};
@@ -88,7 +88,7 @@ impl Machine {
     }
 
     /// Waits on phaser `p` for a block, for at most so many phases, into the first of these places.
-    fn wait_block_on(
+    pub fn wait_block_on(
         &mut self,
         job: &Job,
         p: usize,
@@ -145,84 +145,22 @@ impl Machine {
         self.wait_block_on(job, p, number, places, many)
     }
 
-    /// Waits on phaser `p` for a block of values in range, for at most so many phases, into the
-    /// first of these places.
-    pub fn wait_in_range_on(
-        &mut self,
+    /// How many complete phases in range come next on phaser `p`, of at most so many, as
+    /// `AnyPhaser::good_ahead` tells.
+    pub fn good_ahead_on(
+        &self,
         job: &Job,
         p: usize,
         number: u64,
-        places: &mut [Outcome],
-        many: usize,
+        most: usize,
     ) -> Result<GotBlock, WaitRefusal>
-        requires cores { HasSomeCores job.now self.old.cores.items }
+        requires cores { HasSomeCores job.now self.now.cores.items }
         requires phaser { p < length job.now.graph.phasers }
-        requires room { many ≤ length places.old }
-        ensures reply { (h : ℕ → History)
-            → HasCores job.now h self.old.cores.items
+        ensures { (h : ℕ → History) → HasCores job.now h self.now.cores.items
             → before_too_big (stream_of (value_at job.now p) (h p))
-            (wait_block_reply (limits_at job.now p) (h p) number many) ≡ result }
-        ensures got { (phase count : ℕ) → result ≡ Ok (GotBlock.Values phase count) → 0 < count
-            → (h : ℕ → History) → HasCores job.now h self.old.cores.items
-            → (wait_block_reply (limits_at job.now p) (h p) number count ≡ result)
-            × (take count places.new
-            ≡ slice_range (stream_of (value_at job.now p) (h p)) phase (phase + count)) }
-        ensures few { (phase count : ℕ) → result ≡ Ok (GotBlock.Values phase count)
-            → count ≤ many }
-        ensures too_big { (phase : ℕ) → result ≡ Ok (GotBlock.Values phase 0)
-            → (h : ℕ → History) → HasCores job.now h self.old.cores.items
-            → (wait_block_reply (limits_at job.now p) (h p) number 1
-            ≡ Ok (GotBlock.Values phase 1))
-            × (slice_range (stream_of (value_at job.now p) (h p)) phase (phase + 1)
-            ≡ Outcome.TooBig ∷ []) × (self.new.cores ≡ self.old.cores) }
-        ensures room { length places.new ≡ length places.old }
-        ensures cores { (h : ℕ → History)
-            → HasCores job.now h self.old.cores.items
-            → HasCores job.now (with_at p (after_in_range result number (h p)) h)
-            self.new.cores.items }
-        ensures err { OnErr result (self.new.cores ≡ self.old.cores) }
-        ensures others { (self.new.tasks ≡ self.old.tasks) × (self.new.lines ≡ self.old.lines) }
+            (wait_block_reply (limits_at job.now p) (h p) number most) ≡ result }
     {
-        self.cores[p].wait_in_range(number, &mut places[..many])
-    }
-
-    /// The same into the first places of a list, which stays as long.
-    pub fn wait_in_range_into(
-        &mut self,
-        job: &Job,
-        p: usize,
-        number: u64,
-        places: &mut Vec<Outcome>,
-        many: usize,
-    ) -> Result<GotBlock, WaitRefusal>
-        requires cores { HasSomeCores job.now self.old.cores.items }
-        requires phaser { p < length job.now.graph.phasers }
-        requires room { many ≤ length places.old.items }
-        ensures reply { (h : ℕ → History)
-            → HasCores job.now h self.old.cores.items
-            → before_too_big (stream_of (value_at job.now p) (h p))
-            (wait_block_reply (limits_at job.now p) (h p) number many) ≡ result }
-        ensures got { (phase count : ℕ) → result ≡ Ok (GotBlock.Values phase count) → 0 < count
-            → (h : ℕ → History) → HasCores job.now h self.old.cores.items
-            → (wait_block_reply (limits_at job.now p) (h p) number count ≡ result)
-            × (take count places.new.items
-            ≡ slice_range (stream_of (value_at job.now p) (h p)) phase (phase + count)) }
-        ensures few { (phase count : ℕ) → result ≡ Ok (GotBlock.Values phase count)
-            → count ≤ many }
-        ensures too_big { (phase : ℕ) → result ≡ Ok (GotBlock.Values phase 0)
-            → (h : ℕ → History) → HasCores job.now h self.old.cores.items
-            → (wait_block_reply (limits_at job.now p) (h p) number 1
-            ≡ Ok (GotBlock.Values phase 1))
-            × (slice_range (stream_of (value_at job.now p) (h p)) phase (phase + 1)
-            ≡ Outcome.TooBig ∷ []) × (self.new.cores ≡ self.old.cores) }
-        ensures room { length places.new.items ≡ length places.old.items }
-        ensures cores { (h : ℕ → History)
-            → HasCores job.now h self.old.cores.items
-            → HasCores job.now (with_at p (after_in_range result number (h p)) h)
-            self.new.cores.items }
-        ensures others { (self.new.tasks ≡ self.old.tasks) × (self.new.lines ≡ self.old.lines) }
-    {
-        self.wait_in_range_on(job, p, number, places, many)
+        self.cores[p].good_ahead(number, most)
     }
 
     /// Registers a task as this child of a task on phaser `p`, at the first phase that is not

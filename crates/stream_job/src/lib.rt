@@ -8,10 +8,10 @@
 //! its operation.
 #![tactic(auto)]
 
+mod ahead;
 mod buffers;
 mod calls;
 mod filtering;
-mod in_range;
 mod input;
 mod look;
 mod machine;

@@ -43,8 +43,8 @@ impl Machine {
         moved
     }
 
-    /// Makes one step, or the wait alone where the signal is refused. Where its wait gets no value
-    /// in range, it does nothing.
+    /// Makes one step, or the wait alone where the signal is refused. Where no value in range
+    /// is ahead, it does nothing.
     fn pass_value(&mut self, job: &Job, plan: &Plan, buffers: &mut Buffers, t: usize) -> bool
         requires machine { IsSome job.now self.old }
         requires task { t < length job.now.graph.tasks }
@@ -59,16 +59,19 @@ impl Machine {
         };
         let phaser = input_of(job, t, k);
         let number = self.tasks[t].numbers[k];
-        let mut out = [Outcome::Empty; 1];
-        let Ok(answer) = self.wait_in_range_on(job, phaser, number, &mut out, 1) else {
+        let Ok(ahead) = self.good_ahead_on(job, phaser, number, 1) else {
             return false;
         };
-        let GotBlock::Values { count, .. } = answer else {
+        let GotBlock::Values { count, .. } = ahead else {
             return false;
         };
         if count == 0 {
             return false;
         }
+        let mut out = [Outcome::Empty; 1];
+        let Ok(_) = self.wait_block_on(job, phaser, number, &mut out, 1) else {
+            unreachable!()
+        };
         self.tasks[t].take(job, t, &out, &mut buffers.values);
         self.put_on(job, buffers, t);
         true

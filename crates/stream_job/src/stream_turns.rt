@@ -270,9 +270,7 @@ impl Stream {
         feeds::feeds_go_on();
         let awaits = awaited(&self.job, &self.plan, &self.machine, &self.inputs, t);
         let (plan, buffers) = (&self.plan, &mut self.buffers);
-        let went = self
-            .machine
-            .make_in_range(&self.job, plan, buffers, t, awaits, most)?;
+        let went = self.machine.go(&self.job, plan, buffers, t, awaits, most)?;
         self.plan.pass(&self.job, &self.machine.tasks, t);
         Ok(went)
     }

@@ -1,5 +1,5 @@
 //! The turn of a task, by what it does next.
-ghost use Rattle.std.specs.Prelude.{◌≡◌, ◌≢◌, ◌<◌, ◌≤◌, ◌+◌, ◌++◌, ◌∷◌, [], ℕ, ℤ, List, true, length, map, take, slice_get, Some, None, Ok, IfSome, IfOk, IfErr, OnOk, OnErr, if◌then◌else◌, vec_capacity};
+ghost use Rattle.std.specs.Prelude.{◌≡◌, ◌≢◌, ◌<◌, ◌≤◌, ◌+◌, ◌++◌, ◌∷◌, [], ℕ, ℤ, List, true, length, map, drop, slice_get, Some, None, Ok, IfSome, IfOk, IfErr, OnOk, OnErr, if◌then◌else◌, vec_capacity};
 ghost use Rattle.std.specs.List.{All, position_from};
 ghost use Rattle.graph_base.specs.Graphs.{task_at};
 ghost use Rattle.graph_base.specs.declared.line.Kind.TheVariants.{Fir as filters};
@@ -10,7 +10,7 @@ ghost use Rattle.graph_runs.specs.Answers.{values_up_to, told_got};
 ghost use Rattle.graph_runs.specs.Turned.{with_at};
 ghost use Rattle.graph_runs.specs.Nexts as turns;
 ghost use Rattle.graph_runs.specs.Nexts.{is_live, number_on};
-ghost use Rattle.stream_job.specs.Turning.{IsRegistration, HadTurn, told_of};
+ghost use Rattle.stream_job.specs.Turning.{IsRegistration, HadTurn, HadTurnBy, told_of};
 ghost use Rattle.stream_job.specs.Stepping.{HasDone, HasRoomIn, HasRoomNext, IsNextIn, MayDo, MayStep, OwesMade, is_value_out, with_more, child_refusal, add_event, LineHasBegun};
 ghost use Rattle.stream_job.specs.Buffers.{HasPlaces, most_steps};
 ghost use Rattle.stream_job.specs.Plans.{IsPlan};
@@ -40,8 +40,8 @@ impl Machine {
     ghost use Rattle.stream_job.specs.Machines.{HasCores, HasRoom, IsLiveSome, IsMachineAt, IsSome, MayHaveCome, kept_behind, most_in, next_by};
 
     /// Gives a turn to task number `t`, which, where it is a source, has these samples still to
-    /// signal: it makes its next call, of at most so many steps. Where it is a sink, there is room
-    /// for what it gets.
+    /// signal: it makes its next call, which is this one, of at most so many steps. Where it is a
+    /// sink, there is room for what it gets.
     pub fn make(
         &mut self,
         job: &Job,
@@ -49,10 +49,15 @@ impl Machine {
         buffers: &mut Buffers,
         t: usize,
         awaits: &[i64],
+        step: Step,
         most: u64,
     ) -> Result<Made, AllocError>
         requires came { (s : List (List ℤ)) × MayHaveCome job.now self.old t awaits.now s
             × HasRoomNext most (with_samples s job.now) self.old t }
+        requires step { (s : List (List ℤ)) (m : Moment)
+            → MayHaveCome job.now self.old t awaits.now s
+            → IsMachineAt (with_samples s job.now) m self.old
+            → turns.next_of (with_samples s job.now) m t ≡ next_by step }
         requires most { MayStep job.now self.old t most × (most ≤ most_steps job.now t) }
         requires plan { IsPlan job.now plan.now }
         requires places { HasPlaces job.now buffers.old }
@@ -67,7 +72,7 @@ impl Machine {
         ensures places { buffers.new ≡ buffers.old }
     {
         sized::turns_up_to();
-        match self.next(job, plan, t, awaits) {
+        match step {
             Step::NotLive => Ok(Made::Nothing),
             Step::Register { child } => self.register_child(job, t, child),
             Step::Leave => Ok(self.leave(job, t)),
@@ -144,7 +149,8 @@ impl Machine {
         let state = &self.tasks[t];
         let begun = state.begun;
         if !state.made.is_empty() {
-            return self.signal_made(job, buffers, t);
+            let all = state.most;
+            return self.signal_made(job, buffers, t, all);
         }
         let Owed::Value { value, .. } = state.owed else {
             unreachable!()
@@ -155,17 +161,21 @@ impl Machine {
         }
     }
 
-    /// A filter signals all that it has made, where all of it is in range.
-    fn signal_made(&mut self, job: &Job, buffers: &mut Buffers, t: usize) -> Made
+    /// A filter signals the first of what it has made, at most so many, where these are in range.
+    pub fn signal_made(&mut self, job: &Job, buffers: &mut Buffers, t: usize, most: u64) -> Made
         requires next { MayDo job.now self.old t (turns.signals 0) }
         requires made { OwesMade self.old t }
+        requires most { (1 ≤ most) × (most ≤ most_in self.old t) }
         requires places { HasPlaces job.now buffers.old }
-        ensures made { HasDone job.now self.old self.new t (turns.signals 0) result }
+        ensures made { (s : List (List ℤ)) (steps : ℕ)
+            → IsNextIn steps (with_samples s job.now) self.old t (turns.signals 0)
+            → HadTurnBy 1 most (with_samples s job.now) self.old self.new t result }
         ensures places { buffers.new ≡ buffers.old }
     {
         let state = &self.tasks[t];
         let first = state.begun - state.made.len() as u64;
-        if let Some(place) = put_values(&state.made, &mut buffers.values) {
+        let many = state.made.len().min(most as usize);
+        if let Some(place) = put_values(&state.made[..many], &mut buffers.values) {
             return Made::OutOfRange {
                 step: first + place as u64,
             };
@@ -176,7 +186,7 @@ impl Machine {
         let Ok(_) = self.signal_values_on(job, phaser, number, &buffers.values, parcels) else {
             return Made::Blocked { phaser };
         };
-        self.tasks[t].made.clear();
+        drop_first(&mut self.tasks[t].made, many);
         Made::Event {
             phaser,
             told: Turned::Moved,
@@ -416,8 +426,6 @@ pub fn put_values(made: &[Result<i64, TooBigValue>], values: &mut Vec<i64>) -> O
     requires room { length made.now ≤ vec_capacity values.old }
     ensures some { result ≡ position_from is_value_out 0 made.now }
     ensures none { result ≡ None → map (λ x. Ok x) values.new.items ≡ made.now }
-    ensures before { (place : ℕ) → result ≡ Some place
-        → map (λ x. Ok x) values.new.items ≡ take place made.now }
     ensures room { vec_capacity values.new ≡ vec_capacity values.old }
 {
     values.clear();
@@ -428,6 +436,16 @@ pub fn put_values(made: &[Result<i64, TooBigValue>], values: &mut Vec<i64>) -> O
         values.push_reserved(x);
     }
     None
+}
+
+/// Lets go of the first of these values, so many.
+fn drop_first(made: &mut Vec<Result<i64, TooBigValue>>, many: usize)
+    requires { many ≤ length made.old.items }
+    ensures items { made.new.items ≡ drop many made.old.items }
+    ensures room { vec_capacity made.new ≡ vec_capacity made.old }
+{
+    made.copy_within(many.., 0);
+    made.truncate(made.len() - many);
 }
 
 /// What a turn tells of a wait that got these, the first of this phase.

@@ -209,9 +209,10 @@ impl<'a> World<'a> {
         let block = line_block(self.job, task);
         let awaits = self.machine.awaits(self.job, &self.plan, task);
         let (plan, buffers) = (&self.plan, &mut self.buffers);
+        let step = self.machine.next(self.job, plan, task, awaits);
         let made = self
             .machine
-            .make(self.job, plan, buffers, task, awaits, block)?;
+            .make(self.job, plan, buffers, task, awaits, step, block)?;
         self.parked.note(made, task);
         self.plan.pass(self.job, &self.machine.tasks, task);
         let told = made.told(task);

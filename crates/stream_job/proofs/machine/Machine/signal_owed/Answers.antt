@@ -1,5 +1,5 @@
 -- By what the state owes.
-use Rattle.std.proofs.Common.{ℕ, rules, ◌-◌, [], ◌∷◌, refl, sym, ap, subst, ◌∙◌, arith, SFits, w64, to_z-of_z, List, ℤ}
+use Rattle.std.proofs.Common.{ℕ, ◌≡◌, rules, ◌-◌, [], ◌∷◌, refl, sym, ap, subst, ◌∙◌, arith, SFits, w64, to_z-of_z, List, ℤ}
 use Rattle.std.specs.Prelude.{Ok, Err}
 use Rattle.std.proofs.lemmas.Option.{same_Some}
 use Rattle.graph_runs.specs.Moments.{Moment}
@@ -7,10 +7,13 @@ use Rattle.graph_runs.specs.Nexts.{signals}
 use Rattle.graph_runs.specs.declared.owed.Owed.TheVariants as code
 use Rattle.stream_lists.specs.Jobs.{with_samples}
 use Rattle.stream_job.specs.Stepping.{IsNextIn}
-use Rattle.stream_job.specs.Machines.{IsMachineAt}
+use Rattle.stream_job.specs.Machines.{IsMachineAt, most_in}
+use Rattle.graph_runs.specs.Answers.{answer_up_to, turn_up_to}
+use Rattle.stream_job.proofs.Mosts.{most_is}
+use Rattle.stream_job.proofs.SignalCalls.{had_same}
 use Rattle.stream_job.proofs.Lively.{state_read}
-use Rattle.stream_job.proofs.Signals.{MadeOver, has_made, made_over, none_items, one_no_filter, over_turn, owes_some, owes_this, some_items}
-use Rattle.stream_job.proofs.machine.Machine.signal_owed.Goals.{In-Err}
+use Rattle.stream_job.proofs.Signals.{MadeOver, has_made, made_over, none_items, one_no_filter, over_turn, owes_some, owes_this, signals_at, some_items}
+use Rattle.stream_job.proofs.machine.Machine.signal_owed.Goals.{After-is_empty, In-Err}
 use Rattle.stream_job.proofs.machine.Machine.signal_owed.Goals as goal
 
 -- a value that is too big, which it owes
@@ -43,16 +46,43 @@ signal_made-requires-clause-next c =
           (signals j)) (sym made.first) next,
     )
 
+-- all that one event signals
+all : {steps : ℕ} (s : List (List ℤ)) (c : After-is_empty)
+    (next : IsNextIn steps (with_samples s c.args.job.now) c.args.self.now c.args.t
+    (signals c.args.output)) → most_in c.args.self.now c.args.t ≡ c.index-state.result.now.most
+all s c next =
+    most_is c.args.self.now c.args.t c.index-state.result.now
+    (state_read next (λ e. (cc)) c.index-state.ensures)
+
+pub signal_made-requires-clause-most : goal.signal_made-requires-clause-most
+signal_made-requires-clause-most c =
+    let s = c.requires.next.0 in
+    let next = c.requires.next.2 in
+    let job = with_samples s c.args.job.now in
+    let found = state_read next (λ e. (cc)) c.index-state.ensures in
+    let a = (goal.at.signal_made-requires-clause-most c).After-is_empty in
+    let all = all s a next in
+    let there = (signals_at job c.args.self.now next.some.0 c.args.t c.args.output
+    c.index-state.result.now next next.some.1 found).there in
+    let some = (next.sized there).owed.some in
+    (omega arith, omega arith)
+
 pub returns-then-not-is_empty-clause-made : goal.returns-then-not-is_empty-clause-made
 returns-then-not-is_empty-clause-made c = λ s steps next.
     let job = with_samples s c.args.job.now in
+    let t = c.args.t in
     let found = state_read next (λ e. (cc)) c.index-state.ensures in
     let some = some_items c.index-state.result.now.made
     (sym c.is_empty.ensures ∙ c.if-not-is_empty.true) in
-    let made = has_made job c.args.self.now next.some.0 c.args.t
+    let made = has_made job c.args.self.now next.some.0 t
     c.args.output c.index-state.result.now next next.some.1 found some in
-    c.signal_made.ensures.made s steps
-    (subst (λ j. IsNextIn steps job c.args.self.now c.args.t (signals j)) (sym made.first) next)
+    let all = all s (goal.at.returns-then-not-is_empty-clause-made c).After-is_empty next in
+    let most = most_in c.args.self.now t in
+    had_same job c.args.self.now c.signal_made.new.self t c.signal_made.result
+    (λ m at. ap (answer_up_to steps most job m t) (next.is m at)
+    ∙ sym (ap (answer_up_to 1 most job m t) (next.is m at)) ∙ ap (λ n. turn_up_to 1 n job m t) all)
+    (c.signal_made.ensures.made s steps
+    (subst (λ j. IsNextIn steps job c.args.self.now t (signals j)) (sym made.first) next))
 
 pub signal_made-requires-clause-made : goal.signal_made-requires-clause-made
 signal_made-requires-clause-made c = λ state there none.

@@ -41,8 +41,8 @@ came c s m given at =
     c.awaited-awaits.ensures s m at.each at.machine
     (subst (AreKept c.self.inside.job s m) (sym c.deref.ensures.value) at.kept)
 
-pub make_in_range-requires-clause-came : goal.make_in_range-requires-clause-came
-make_in_range-requires-clause-came c =
+pub go-requires-clause-came : goal.go-requires-clause-came
+go-requires-clause-came c =
     let s = c.self.invariant.0.0 in
     let m = c.self.invariant.0.1 in
     let given = c.self.invariant.0.2 in
@@ -53,14 +53,14 @@ make_in_range-requires-clause-came c =
     let room = subst P (sym c.self.view_is) (λ s m given at.
     c.is_full_by.ensures.room c.if-is_full_by.false s m given at) in (
       s,
-      came (goal.at.make_in_range-requires-clause-came c).After-awaited-awaits s m given at,
+      came (goal.at.go-requires-clause-came c).After-awaited-awaits s m given at,
       room s m given at,
     )
 
 pub returns-in_err-went-clause-err : goal.returns-in_err-went-clause-err
 returns-in_err-went-clause-err c =
     let old = the_view c.self.inside in
-    let P : StreamState → Type 0 = λ w. StreamMoves 0 w (with_machine old c.make_in_range.new.self) in
+    let P : StreamState → Type 0 = λ w. StreamMoves 0 w (with_machine old c.go.new.self) in
     err_of c.from_residual.result (subst P c.self.view_is
     (subst (λ machine. StreamMoves 0 old (with_machine old machine)) (sym c.in_err-went.ensures.err)
     (moves_none old)))
@@ -69,7 +69,7 @@ returns-in_err-went-clause-err c =
 gone : (c : In_ok-went) (s : List (List ℤ)) (m : Moment) (given : ℕ → List ℤ)
     → IsStreamAt (the_view c.self.inside) s m given
     → HasGone c.args.most (with_samples s c.self.inside.job) c.self.inside.machine
-    c.make_in_range.new.self c.args.t c.in_ok-went.went
+    c.go.new.self c.args.t c.in_ok-went.went
 gone c s m given at =
     c.in_ok-went.ensures.went s
     (c.awaited-awaits.ensures s m at.each at.machine
@@ -79,7 +79,7 @@ gone c s m given at =
 goes : (c : In_ok-went) (s : List (List ℤ)) (m : Moment) (given : ℕ → List ℤ)
     → IsStreamAt (the_view c.self.inside) s m given
     → GoesTo (of_went c.in_ok-went.went) (the_view c.self.inside)
-    (with_machine (the_view c.self.inside) c.make_in_range.new.self) s m given
+    (with_machine (the_view c.self.inside) c.go.new.self) s m given
 goes c s m given at =
     let job = with_samples s c.self.inside.job in
     let old = the_view c.self.inside in
@@ -89,7 +89,7 @@ goes c s m given at =
     let N : StreamState → Type 0 = λ w. w.met ≡ None in
     let fed = subst P (sym c.self.view_is) (λ s m given at.
     c.is_hungry.ensures s m given at ∙ c.if-is_hungry.false) in
-    went_to c.args.most old c.make_in_range.new.self s m given c.args.t c.in_ok-went.went
+    went_to c.args.most old c.go.new.self s m given c.args.t c.in_ok-went.went
     (λ event next ok. c.feeds_go_on.ensures.turn job (ended_at old) m event at.machine.graph
     at.machine.reached.ran next ok at.stays_open)
     (subst N (sym c.self.view_is) c.requires.met) (fed s m given at) (gone c s m given at) at
@@ -105,10 +105,10 @@ invariant_of-self-2 c =
     let to = goes here s m given at in (
       (s, after_sized job m to.turns, given, to.stands),
       c.pass.ensures,
-      subst (HasPlaces c.self.inside.job) (sym c.make_in_range.ensures.places) c.self.invariant.2,
+      subst (HasPlaces c.self.inside.job) (sym c.go.ensures.places) c.self.invariant.2,
       c.self.invariant.3,
       c.self.invariant.4,
-      went_own c.args.most job c.self.inside.machine c.make_in_range.new.self c.args.t c.in_ok-went.went
+      went_own c.args.most job c.self.inside.machine c.go.new.self c.args.t c.in_ok-went.went
           (line_room c.self.inside.job) (gone here s m given at) c.self.invariant.5,
     )
 
@@ -117,7 +117,7 @@ returns-clause-moves c =
     let here = (goal.at.returns-clause-moves c).In_ok-went in
     let old = the_view c.self.inside in
     let P : StreamState → Type 0 = λ w. StreamMoves (of_went c.in_ok-went.went) w
-    (with_machine old c.make_in_range.new.self) in
+    (with_machine old c.go.new.self) in
     subst P c.self.view_is record {
       later = λ s m given at.
           (let to = goes here s m given at in (to.turns, to.may, to.moves, to.stands));
@@ -135,7 +135,7 @@ returns-clause-stays c = λ is line.
     λ s m given at.
     subst P c.self.view_is (λ s m given line at.
     (let job = with_samples s c.self.inside.job in
-    let stayed = subst (HasGone c.args.most job c.self.inside.machine c.make_in_range.new.self
+    let stayed = subst (HasGone c.args.most job c.self.inside.machine c.go.new.self
     c.args.t) (ap (word_in went.On) is) (gone here s m given at) in
     rests_held (is_held_up job m c.args.t)
     (is_hungry job (ended_at (the_view c.self.inside)) m c.args.t)
@@ -150,8 +150,8 @@ returns-clause-before c = λ place phase is.
     let stopped = λ (s : List (List ℤ)) (m : Moment) (given : ℕ → List ℤ)
     (at : IsStreamAt (the_view c.self.inside) s m given).
     subst (HasGone c.args.most (with_samples s c.self.inside.job) c.self.inside.machine
-    c.make_in_range.new.self c.args.t) word (gone here s m given at) in
-    let P : StreamState → Type 0 = λ w. (with_machine old c.make_in_range.new.self ≡ w)
+    c.go.new.self c.args.t) word (gone here s m given at) in
+    let P : StreamState → Type 0 = λ w. (with_machine old c.go.new.self ≡ w)
     × ((s : List (List ℤ)) (m : Moment) (given : ℕ → List ℤ) → IsStreamAt w s m given
     → stands_before (with_samples s w.job) m c.args.t ≡ Some (place, phase)) in
     subst P c.self.view_is (

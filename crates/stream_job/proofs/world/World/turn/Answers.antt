@@ -57,6 +57,9 @@ make-requires-clause-most c =
       omega arith,
     )
 
+pub make-requires-clause-step : goal.make-requires-clause-step
+make-requires-clause-step c = λ s m may at. c.next-step.ensures s m at (may.awaits m at)
+
 pub note-requires : goal.note-requires
 note-requires c =
     let m = c.self.invariant.0.0 in
