@@ -1,11 +1,9 @@
 -- The turn of a filter that signals the first of what it has made, and what is ahead of a task that
 -- signals.
-use Rattle.std.proofs.Common.{◌≡◌, ◌≢◌, ℕ, ℤ, List, zero, suc, ◌+◌, ◌-◌, ◌<◌, ◌≤◌, ◌||◌, Bool, true, false, cond, eqb, [], ◌∷◌, Option, Some, None, length, get_or, slice_get, set, map, take, drop, take-take, refl, sym, ap, subst, ◌∙◌, arith, length-append, min, ⊎_elim}
+use Rattle.std.proofs.Common.{◌≡◌, ◌≢◌, ℕ, ℤ, List, zero, suc, ◌+◌, ◌-◌, ◌<◌, ◌≤◌, Bool, true, false, cond, eqb, [], ◌∷◌, Some, None, length, get_or, slice_get, set, map, take, drop, take-take, refl, sym, ap, subst, ◌∙◌, arith, length-append, min, ⊎_elim}
 use Rattle.std.specs.Prelude.{Result, Ok, Err}
 use Rattle.std.specs.List.{position_from, drop-map}
-use Rattle.std.specs.declared.vec.Vec.{Vec}
-use Rattle.std.specs.Global.{Global}
-use Rattle.std.proofs.lemmas.Bool.{cases_lt, eq-eqb, eqb-true, or_right}
+use Rattle.std.proofs.lemmas.Bool.{cases_lt, eq-eqb, or_right}
 use Rattle.std.proofs.lemmas.List.{drop-drop, length-drop, length-map, length-take-le, take-map}
 use Rattle.std.proofs.lemmas.Option.{same_Some}
 use Rattle.phase_accum.specs.Sends.{AreSends}
@@ -39,7 +37,7 @@ use Rattle.graph_runs.proofs.OwnEvents.{made_still}
 use Rattle.graph_runs.proofs.Signalling.{values_few}
 use Rattle.graph_runs.proofs.SizedTurns.{turn_reached}
 use Rattle.stream_job.specs.Blocking.{called_on}
-use Rattle.stream_job.specs.InRange.{HasGone, HasStayed, IsGoodPart, TellsNone, are_blocked, blocks_before, good_many, is_blocked_before, is_held_up, stands_before, told_too_big, went_by}
+use Rattle.stream_job.specs.InRange.{HasGone, IsGoodPart, TellsNone, are_blocked, blocks_before, is_blocked_before, is_held_up, stands_before, told_too_big, went_by}
 use Rattle.stream_job.specs.Machines.{HasCores, IsMachine, IsMachineAt, KeepsLines, most_in}
 use Rattle.stream_job.specs.Places.{IsTaskAt, owed_in, place_in_state}
 use Rattle.stream_job.specs.Stepping.{IsNextIn, MayStep, good_in, is_at_rest, is_value_out, owed_many}
@@ -52,7 +50,6 @@ use Rattle.stream_job.specs.declared.task_state.TaskState.{TaskState}
 use Rattle.stream_job.proofs.Events.{after_own, unchanged}
 use Rattle.stream_job.proofs.GoodSizes.{fewer_owed}
 use Rattle.stream_job.proofs.LinesAfter.{quiet_lines, same_lines, same_rooms}
-use Rattle.stream_job.proofs.Lively.{live_next}
 use Rattle.stream_job.proofs.Makes.{MakesEvent, makes_event}
 use Rattle.stream_job.proofs.Mosts.{mosts_same, mosts_set, stands_in}
 use Rattle.stream_job.proofs.Numbering.{few_after}

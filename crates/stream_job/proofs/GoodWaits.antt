@@ -29,7 +29,6 @@ use Rattle.graph_runs.specs.Answers as answers
 use Rattle.graph_base.specs.Graphs.{task_at}
 use Rattle.graph_runs.specs.Answers.{Answer, answer_up_to, block_answer, makes, tells_up_to, told_got, told_wait, turn_up_to, wait_answer, word_of_answer}
 use Rattle.graph_runs.specs.Moments.{Moment, input_at, limits_at, value_at}
-use Rattle.graph_runs.specs.NextBlocks.{MaySize}
 use Rattle.graph_runs.proofs.Blocks.{block_few, block_some}
 use Rattle.graph_runs.specs.Nexts as turns
 use Rattle.graph_runs.specs.Nexts.{Next, next_of}

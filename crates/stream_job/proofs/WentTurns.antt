@@ -12,8 +12,7 @@ use Rattle.graph_base.specs.declared.registration.Registration.{Registration}
 use Rattle.graph_base.specs.Graphs.{task_at, phaser_at}
 use Rattle.stream_lists.specs.Jobs.{Job}
 use Rattle.stream_lists.specs.Ranges.{are_made, is_out_of_range}
-use Rattle.graph_runs.specs.Answers as answers
-use Rattle.graph_runs.specs.Answers.{Answer, Told, Moved, Ended, TooBig, accepted_answer, after_answer, answer_up_to, call_leave, call_register, has_made, is_blocked, is_gone, is_refused, makes, output_at, register_answer, samples_up_to, signal_answer, signal_turn, tells_up_to, turn_up_to, values_up_to, was_blocked, word_of_answer}
+use Rattle.graph_runs.specs.Answers.{Answer, Moved, Ended, accepted_answer, after_answer, answer_up_to, call_leave, call_register, has_made, is_blocked, is_gone, is_refused, makes, output_at, register_answer, samples_up_to, signal_answer, signal_turn, turn_up_to, was_blocked}
 use Rattle.graph_runs.specs.Moments.{one, Moment, limits_at}
 use Rattle.graph_runs.specs.NextBlocks.{MaySize}
 use Rattle.graph_runs.specs.Nexts as nexts

@@ -1,8 +1,7 @@
 -- Of a registration, a leave and samples no value can be out of range.
-use Rattle.std.proofs.Common.{◌≡◌, ◌≢◌, ◌≤◌, ℕ, ℤ, List, refl}
+use Rattle.std.proofs.Common.{◌≢◌, ℕ, refl}
 use Rattle.stream_lists.specs.Jobs.{Job, with_samples}
 use Rattle.graph_runs.proofs.Signalling.{live-is}
-use Rattle.graph_runs.specs.Nexts.{is_not_live}
 use Rattle.stream_job.specs.InRange.{IsGoodSize}
 use Rattle.stream_job.specs.Machines.{next_by}
 use Rattle.stream_job.specs.Stepping.{IsNextIn}

@@ -1,5 +1,5 @@
 -- A peer asks as the number that stands at its second registration.
-use Rattle.std.proofs.Common.{◌≡◌, ◌<◌, ℤ, List, length, get_or, ap, ◌∙◌, arith}
+use Rattle.std.proofs.Common.{length, get_or, ap, ◌∙◌, arith}
 use Rattle.std.specs.Prelude.{Ok}
 use Rattle.phase_history.specs.declared.got.GotBlock.TheVariants as block
 use Rattle.stream_lists.specs.Jobs.{with_samples}

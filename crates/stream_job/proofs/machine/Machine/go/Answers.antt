@@ -1,5 +1,5 @@
 -- A turn of the size that was found ahead is one that takes no value out of range.
-use Rattle.std.proofs.Common.{◌≡◌, ◌≢◌, ◌≤◌, ℕ, ℤ, List, refl, sym, ap, subst, ◌∙◌, arith}
+use Rattle.std.proofs.Common.{◌≡◌, ◌≢◌, ℕ, ℤ, List, refl, sym, subst, arith}
 use Rattle.stream_lists.specs.Jobs.{Job, with_samples}
 use Rattle.graph_runs.proofs.Signalling.{live-is}
 use Rattle.graph_runs.specs.Moments.{Moment}
@@ -15,7 +15,7 @@ use Rattle.stream_job.proofs.GoodSignals.{had_part}
 use Rattle.stream_job.proofs.GoodSizes.{fewer_steps}
 use Rattle.stream_job.proofs.Lively.{live_next, makes_one}
 use Rattle.stream_job.proofs.Numbering.{few_after}
-use Rattle.stream_job.proofs.WentTurns.{gone_stays, had_sized}
+use Rattle.stream_job.proofs.WentTurns.{had_sized}
 use Rattle.stream_job.proofs.machine.Machine.go.Goals.{After-ahead, After-next-step}
 use Rattle.stream_job.proofs.machine.Machine.go.Goals as goal
 

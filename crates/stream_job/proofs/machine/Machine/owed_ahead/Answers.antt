@@ -1,5 +1,5 @@
 -- By how many values it owes before the first that is out of range.
-use Rattle.std.proofs.Common.{◌+◌, ◌-◌, ◌≤◌, ap, ◌∙◌, arith}
+use Rattle.std.proofs.Common.{◌-◌, ap, ◌∙◌, arith}
 use Rattle.std.specs.Prelude.{Some}
 use Rattle.stream_lists.specs.Jobs.{with_samples}
 use Rattle.stream_job.proofs.GoodSignals.{owed_before, owed_begun, owed_good, owed_part}

@@ -1,6 +1,6 @@
 -- A step's wait is as the number that stands at the registration of its input, and what it got is
 -- signalled.
-use Rattle.std.proofs.Common.{◌≡◌, ◌≢◌, ℕ, ℤ, List, ◌<◌, [], ◌∷◌, None, length, get_or, map, set, refl, sym, ap, subst, ◌∙◌, arith}
+use Rattle.std.proofs.Common.{◌≡◌, ◌≢◌, ℤ, List, [], ◌∷◌, None, length, get_or, map, set, refl, sym, ap, subst, ◌∙◌, arith}
 use Rattle.std.specs.Prelude.{Ok}
 use Rattle.std.specs.List.{position_from}
 use Rattle.phase_accum.specs.declared.outcome.Outcome.TheVariants.{Empty}
@@ -23,7 +23,6 @@ use Rattle.stream_job.specs.declared.machine.Machine.{Machine}
 use Rattle.stream_job.specs.declared.task_state.TaskState.{TaskState}
 use Rattle.stream_job.proofs.BareSteps.{none_stepped, kept_live, read_at, steps_within, waited_once, waits_few_begun, whole}
 use Rattle.stream_job.proofs.Ending.{number_of_input}
-use Rattle.stream_job.proofs.Events.{unchanged}
 use Rattle.stream_job.proofs.FirstTurns.{nothing_owed}
 use Rattle.stream_job.proofs.GoodWaits.{IsOneAhead, one_ahead, same_given}
 use Rattle.stream_job.proofs.Mosts.{set_same}

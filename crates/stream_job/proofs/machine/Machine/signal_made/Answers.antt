@@ -1,5 +1,5 @@
 -- The first of what is made is signalled, where all of this is in range.
-use Rattle.std.proofs.Common.{ℕ, ◌≡◌, ◌≢◌, ◌<◌, ◌≤◌, ◌+◌, ◌-◌, min, drop, length, get_or, refl, subst, sym, ap, ◌∙◌, arith, List, ℤ}
+use Rattle.std.proofs.Common.{ℕ, ◌≡◌, ◌<◌, ◌≤◌, ◌+◌, ◌-◌, min, drop, length, get_or, refl, subst, sym, ap, ◌∙◌, arith, List, ℤ}
 use Rattle.std.specs.Prelude.{Ok, Some, map, take}
 use Rattle.std.specs.List.{position_from}
 use Rattle.std.proofs.lemmas.Option.{same_Some}

@@ -1,7 +1,7 @@
 -- The task asks as the number that stands at the registration of its input, for the steps of its
 -- next block.
-use Rattle.std.proofs.Common.{◌≡◌, ◌<◌, ◌*◌, ℕ, ℤ, List, length, get_or, ap, ◌∙◌, arith}
-use Rattle.std.specs.Prelude.{Ok, Err}
+use Rattle.std.proofs.Common.{◌≡◌, ◌<◌, ◌*◌, ℤ, List, length, get_or, ap, ◌∙◌, arith}
+use Rattle.std.specs.Prelude.{Ok}
 use Rattle.phase_history.specs.declared.got.GotBlock.TheVariants as block
 use Rattle.graph_runs.specs.Nexts.{waits}
 use Rattle.stream_lists.specs.Jobs.{with_samples}
