@@ -110,8 +110,8 @@ pub fn read_run_words<'a>(alloc: Global, words: &'a [String]) -> Result<RunCall<
     }
 }
 
-/// Reads the words behind `phase eval`, of which one is `--workers`. Where they ask for help, or are
-/// refused, the text is clap's.
+/// Reads the words behind `phase eval`, of which one is `--workers`. Where they ask for help, or
+/// are refused, the text is that of clap.
 pub fn read_eval_words<'a>(alloc: Global, words: &'a [String]) -> Result<RunCall<'a>, NoCall>
     ensures call { IfOk result (λ call. AsksWorkers (texts words.now) (run_of call)) }
     ensures no_call { IfErr result (λ none.
