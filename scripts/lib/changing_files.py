@@ -113,7 +113,8 @@ def changes_while_read(room):
         [command] = room.commands(words + ("" if "draw" in words else " --explain"))
         ended, _ = room.counted(command, room.fails, CALL="read", HOW="grows", AT=0, CHANGED=grows)
         limit = 1048576 if grows == "g" else 67108864
-        more = b"  %s: it has more than %d bytes\n" % (grows.encode(), limit)
+        tip = b"" if grows == "g" else b": `phase stream` has no such limit"
+        more = b"  %s: it has more than %d bytes%s\n" % (grows.encode(), limit, tip)
         more = b"" if "draw" in words else more
         wants(ended == (5, b"", READ_FAULT + more), words, grows, ended)
 

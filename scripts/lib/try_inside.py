@@ -231,15 +231,22 @@ def of_library():
 
 
 def man():
-    """The page of man says what the help says."""
-    page = said("man phase | col -bx", MANPATH=os.path.join(SHARE, "man"), MANWIDTH="100")
-    lines = {" ".join(it.split()) for it in page.splitlines()}
+    """The page of man says what the help says, each paragraph once, in 80 columns."""
+    page = said("man phase | col -bx", MANPATH=os.path.join(SHARE, "man"), MANWIDTH="80")
+    long = [it for it in page.splitlines() if len(it) > 80]
+    wants(not long, f"past 80 columns: {long}")
+    words = " ".join(page.split())
     for command in COMMANDS:
-        for line in said(f"phase help {command}").splitlines():
-            line = line.removeprefix("Usage: ")
-            wants(" ".join(line.split()) in lines, f"the page has no line `{line}`")
-    for head in ("SYNOPSIS", "OPTIONS", "EXIT STATUS", "EXAMPLES"):
-        wants(head in lines, f"the page has no {head}")
+        for part in re.split(r"\n\n(?=\S)", said(f"phase help {command}").strip()):
+            head, _, rest = part.partition("\n")
+            listed = rest.split("\n") if head in ("Arguments:", "Options:") else ()
+            for one in listed or [part.removeprefix("Usage: ")]:
+                wants(" ".join(one.split()) in words, f"the page has not: {one}")
+    parts = re.split(r"^(SYNOPSIS|OPTIONS|EXIT STATUS|EXAMPLES)$", page, flags=re.M)
+    wants(len(parts) == 9, f"the page has {parts[1::2]}")
+    told = re.split(r"\n\s*\n", "\n\n".join((parts[2], parts[6], parts[8])))
+    twice = {it for it in told if told.count(it) > 1}
+    wants(not twice, f"twice: {twice}")
     if shutil.which("mandoc"):
         said(f"mandoc -T lint -W warning {SHARE}/man/man1/phase.1")
 

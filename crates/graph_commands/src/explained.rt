@@ -13,7 +13,7 @@ use crate::meeting::meeting_found;
 use crate::records::record_explained;
 use crate::{Failure, FileRefusal, JobFault, Refuses};
 use graph_base::{Graph, Place};
-use graph_lang::read_graph;
+use graph_lang::{TEXT_MAX, read_graph};
 use graph_show::explanation;
 use itoa::Buffer;
 use std::alloc::{AllocError, Global};
@@ -172,7 +172,7 @@ fn why_text(alloc: Global, why: FileRefusal, text: &[u8]) -> Result<String, Allo
         FileRefusal::Missing => String::from_str(alloc, "there is no such file"),
         FileRefusal::Folder => String::from_str(alloc, "it is a folder"),
         FileRefusal::NotAllowed => String::from_str(alloc, "there is no permission to read it"),
-        FileRefusal::TooLong(limit) => counted(alloc, "it has more than ", limit, " bytes"),
+        FileRefusal::TooLong(limit) => too_long_text(alloc, limit),
         FileRefusal::GraphInput => String::from_str(alloc, "standard input is the graph already"),
         FileRefusal::SourceInput => input_text(alloc, text),
         FileRefusal::Awaited(count) => {
@@ -185,6 +185,16 @@ fn why_text(alloc: Global, why: FileRefusal, text: &[u8]) -> Result<String, Allo
         }
         FileRefusal::Other => String::from_str(alloc, "it cannot be read"),
     }
+}
+
+/// That a file has more bytes than its limit; a stream's samples have none.
+fn too_long_text(alloc: Global, limit: usize) -> Result<String, AllocError> {
+    let behind = if limit == TEXT_MAX {
+        " bytes: `phase stream` has no such limit"
+    } else {
+        " bytes"
+    };
+    counted(alloc, "it has more than ", limit, behind)
 }
 
 /// A text with a number.

@@ -102,8 +102,21 @@ fn are_digits(word: &[u8]) -> bool {
     !word.is_empty() && word.iter().all(|b| b'0' <= *b && *b <= b'9')
 }
 
+/// Whether there are digits with one point among them, or at an end.
+fn is_fraction(word: &[u8]) -> bool {
+    let points = word.iter().filter(|b| **b == b'.').count();
+    points == 1
+        && word.len() > 1
+        && word
+            .iter()
+            .all(|b| (b'0' <= *b && *b <= b'9') || *b == b'.')
+}
+
 /// What is wrong with digits, perhaps behind a minus, or with another text.
 fn number_fault(digits: &[u8], has_minus: bool) -> &'static str {
+    if is_fraction(digits) {
+        return "a fraction: multiply by 1000, say, and round";
+    }
     if !are_digits(digits) {
         return "not a whole number";
     }
@@ -183,7 +196,7 @@ fn record_fault(alloc: Global, text: &[u8], number: usize) -> Result<&'static st
         return Ok("a quote that is not closed on its line");
     }
     if number == 1 && begins_with_letter(field) && !is_no_number(field) {
-        return Ok("a header is no sample");
+        return Ok("a header is no sample: `tail -n +2` leaves it out");
     }
     Ok(field_fault(field))
 }

@@ -3,7 +3,7 @@ use Rattle.std.specs.Prelude.{◌≢◌, codes, ⊤}
 use Rattle.clap.specs.Words.{App, new_app}
 use Rattle.clap.specs.declared.error.kind.ErrorKind.{ErrorKind}
 use Rattle.clap.specs.declared.error.kind.ErrorKind.TheVariants.{OutOfMemory}
-use Rattle.phase_words.specs.CommandLine.{IsShown, with_version, without_own_name}
+use Rattle.phase_words.specs.CommandLine.{IsShown, without_own_name}
 use Rattle.phase_words.specs.declared.call.NoCall.{NoCall}
 use Rattle.phase_words.specs.declared.call.NoCall.TheVariants as no_call
 
@@ -15,4 +15,4 @@ IsToldBy kind no_call.OutOfMemory = ⊤
 
 -- the program with no word and no command
 abbrev pub bare_app : App
-bare_app = with_version (without_own_name (new_app (codes "phase")))
+bare_app = without_own_name (new_app (codes "phase"))

@@ -1,16 +1,18 @@
 -- What the words of a command line ask for, by what clap makes of them. The program's own name is
 -- not among them.
-use Rattle.std.specs.Prelude.{◌≡◌, ◌≢◌, ◌⊎◌, ◌&&◌, Bool, true, false, is_some, List, [], ◌∷◌, Option, Some, None}
+use Rattle.std.specs.Prelude.{◌≡◌, ◌≢◌, ◌⊎◌, ◌&&◌, ◌||◌, Bool, true, false, is_some, List, [], ◌∷◌, Option, Some, None}
 use Rattle.std.specs.Prelude.{String, codes, if◌then◌else◌, map, option_map, string_bytes, unwrap_or, ⊤}
 use Rattle.std.specs.Str.{bytes_eq}
 use Rattle.clap.specs.Words.{App, IsAmong, Kinds, Row, Rule, Shape, Text, fault_of, first_of}
 use Rattle.clap.specs.Words.{new_app, new_rule, subcommand_of, with_rule, with_subcommand}
 use Rattle.clap.specs.declared.builder.action.ArgAction.TheVariants.{SetTrue}
+use Rattle.clap.specs.declared.builder.value_parser.ValueParser.TheVariants as vp
 use Rattle.clap.specs.declared.error.kind.ErrorKind.{ErrorKind}
 use Rattle.clap.specs.Kinds.{or_else}
 use Rattle.clap.specs.declared.error.kind.ErrorKind.TheVariants.{ArgumentConflict, DisplayHelp, DisplayVersion}
 use Rattle.phase_words.specs.declared.call.Call.{Call}
 use Rattle.phase_words.specs.declared.call.Call.TheVariants as call
+use Rattle.phase_words.specs.declared.call.TheConstants.{WORKERS_MAX}
 use Rattle.watched_io.specs.declared.explain.Explain.{Explain}
 use Rattle.watched_io.specs.declared.explain.Explain.TheVariants.{No, Yes}
 use Rattle.phase_words.specs.declared.call.Strict.{Strict}
@@ -59,14 +61,22 @@ abbrev pub explain_rule : Rule
 explain_rule =
     record (new_rule (codes "explain")) { long = Some (codes "explain"); action = Some SetTrue }
 
+-- the number of workers, which may be given behind `--workers`: from 1 to 16, in decimal digits
+abbrev pub workers_rule : Rule
+workers_rule = record (new_rule (codes "workers")) {
+  long = Some (codes "workers");
+  value_names = 1;
+  parser = Some (vp.Unsigned 1 WORKERS_MAX);
+}
+
 -- the command `check`
 abbrev pub check_shape : Shape
 check_shape = (with_rule (with_rule (graph_app (codes "check")) beside_rule) explain_rule).top
 
 -- the command `eval`
 abbrev pub eval_shape : Shape
-eval_shape = (with_rule (with_rule (with_rule (with_rule (graph_app (codes "eval")) sink_rule)
-    columns_rule) beside_rule) explain_rule).top
+eval_shape = (with_rule (with_rule (with_rule (with_rule (with_rule (graph_app (codes "eval"))
+    sink_rule) columns_rule) beside_rule) workers_rule) explain_rule).top
 
 -- the command `draw`
 abbrev pub draw_shape : Shape
@@ -99,9 +109,14 @@ abbrev pub is_given : Option Text → Bool
 is_given None = false
 is_given (Some value) = bytes_eq value (codes "true")
 
--- whether `--columns` and `--sink` stand there together, by what clap found for a command's words
+-- whether `--sink` or `--workers` stands there, by what clap found for a command's words
+abbrev pub names_other : List Row → Bool
+names_other rows =
+    is_some (first_of (codes "sink") rows) || is_some (first_of (codes "workers") rows)
+
+-- whether one of them stands there with `--columns`
 abbrev pub has_both : List Row → Bool
-has_both rows = is_given (first_of (codes "columns") rows) && is_some (first_of (codes "sink") rows)
+has_both rows = is_given (first_of (codes "columns") rows) && names_other rows
 
 -- whether they do behind the command that it found
 abbrev pub has_conflict : Option (Text × List Row) → Bool
@@ -146,7 +161,8 @@ AreRefused words = Refuse (kinds_of words)
 -- what words that are taken ask for: a replay of standard input, or of the script in a file, also
 -- one that ends at the first line that is refused; a check of a graph's file, its evaluation, for
 -- all its sinks, for the one of a name or as columns, or its drawing, also with a fault explained;
--- but for a drawing also with the files of its sources opened beside it
+-- but for a drawing also with the files of its sources opened beside it. By how many workers an
+-- evaluation is asked for makes no difference
 pub data Asked : Type 0 where
   replay : Asked
   replay_file : Strict → Text → Asked

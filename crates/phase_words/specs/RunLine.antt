@@ -5,9 +5,8 @@ use Rattle.std.specs.Str.Parse.{digits_value, without_leading_plus}
 use Rattle.clap.specs.ValueTests.{is_unsigned_in}
 use Rattle.clap.specs.Words.{App, Kinds, Row, Rule, Text, fault_of, first_of, matches_of, new_rule, with_rule}
 use Rattle.clap.specs.declared.builder.action.ArgAction.TheVariants.{SetTrue}
-use Rattle.clap.specs.declared.builder.value_parser.ValueParser.TheVariants as vp
-use Rattle.clap.specs.declared.error.kind.ErrorKind.TheVariants.{DisplayHelp, DisplayVersion}
-use Rattle.phase_words.specs.CommandLine.{Refuse, explain_of, explain_rule, is_given}
+use Rattle.clap.specs.declared.error.kind.ErrorKind.TheVariants.{DisplayHelp}
+use Rattle.phase_words.specs.CommandLine.{Refuse, explain_of, explain_rule, is_given, workers_rule}
 use Rattle.phase_words.specs.SinkLine.{graph_by, sink_app}
 use Rattle.watched_io.specs.declared.explain.Explain.{Explain}
 use Rattle.watched_io.specs.declared.explain.Explain.TheVariants.{No, Yes}
@@ -15,14 +14,6 @@ use Rattle.phase_words.specs.declared.call.RunCall.{RunCall}
 use Rattle.phase_words.specs.declared.call.TheConstants.{WORKERS, WORKERS_MAX}
 
 -- ---- the command line
-
--- the number of workers, which may be given behind `--workers`: from 1 to 16, in decimal digits
-abbrev pub workers_rule : Rule
-workers_rule = record (new_rule (codes "workers")) {
-  long = Some (codes "workers");
-  value_names = 1;
-  parser = Some (vp.Unsigned 1 WORKERS_MAX);
-}
 
 -- the word `--counts`, which may be given
 abbrev pub counts_rule : Rule
@@ -51,10 +42,6 @@ AreRunTaken words = run_kinds_of words ≡ []
 -- the words ask for help, and for nothing else
 abbrev pub AskRunHelp : List Text → Type 0
 AskRunHelp words = run_kinds_of words ≡ DisplayHelp ∷ []
-
--- the words ask for the version, and for nothing else
-abbrev pub AskRunVersion : List Text → Type 0
-AskRunVersion words = run_kinds_of words ≡ DisplayVersion ∷ []
 
 -- the words are refused: they are not taken, and ask for no help and no version
 abbrev pub AreRunRefused : List Text → Type 0

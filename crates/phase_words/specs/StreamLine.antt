@@ -2,7 +2,7 @@
 use Rattle.std.specs.Prelude.{◌≡◌, Bool, false, List, [], ◌∷◌, Option, codes, map, option_map}
 use Rattle.clap.specs.Words.{App, Kinds, Row, Text, fault_of, first_of, matches_of, with_rule}
 use Rattle.clap.specs.Kinds.{or_else}
-use Rattle.clap.specs.declared.error.kind.ErrorKind.TheVariants.{DisplayHelp, DisplayVersion}
+use Rattle.clap.specs.declared.error.kind.ErrorKind.TheVariants.{DisplayHelp}
 use Rattle.phase_words.specs.CommandLine.{Refuse, columns_rule, explain_of, explain_rule, is_given}
 use Rattle.phase_words.specs.Outputs.{Pair, others_in, output_kinds, pair_as, pairs_in, sink_in, to_rule}
 use Rattle.phase_words.specs.SinkLine.{graph_by, sink_app}
@@ -33,10 +33,6 @@ AreStreamTaken words = stream_kinds_of words ≡ []
 -- the words ask for help, and for nothing else
 abbrev pub AskStreamHelp : List Text → Type 0
 AskStreamHelp words = stream_kinds_of words ≡ DisplayHelp ∷ []
-
--- the words ask for the version, and for nothing else
-abbrev pub AskStreamVersion : List Text → Type 0
-AskStreamVersion words = stream_kinds_of words ≡ DisplayVersion ∷ []
 
 -- the words are refused: they are not taken, and ask for no help and no version
 abbrev pub AreStreamRefused : List Text → Type 0

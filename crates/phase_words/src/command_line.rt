@@ -9,17 +9,18 @@ ghost use Rattle.phase_words.specs.ClapErrors.{IsToldBy, bare_app};
 ghost use Rattle.phase_words.specs.CommandLine.{asked_as, asked_by, asked_in, asked_of, asked_with};
 ghost use Rattle.phase_words.specs.CommandLine.{graph_call_with, replay_with};
 ghost use Rattle.phase_words.specs.CommandLine.{beside_rule, check_shape, columns_rule, draw_shape};
-ghost use Rattle.phase_words.specs.CommandLine.{eval_as, eval_shape, explain_of, has_both, has_conflict, is_given};
+ghost use Rattle.phase_words.specs.CommandLine.{eval_as, eval_shape, explain_of, has_both, has_conflict, is_given, names_other};
 ghost use Rattle.phase_words.specs.CommandLine.{explain_rule, graph_app, graph_rule, kinds_of};
 ghost use Rattle.phase_words.specs.CommandLine.{phase_app, replay_by, replay_shape, script_rule};
-ghost use Rattle.phase_words.specs.CommandLine.{sink_rule, strict_of, strict_rule, texts};
+ghost use Rattle.phase_words.specs.CommandLine.{sink_rule, strict_of, strict_rule, texts, workers_rule};
 
 use crate::escape::refusal_text;
 use crate::help::{
-    ABOUT, BESIDE, BOTH, CHECK, CHECK_END, COLUMNS, DRAW, DRAW_END, END, EVAL, EVAL_END, EXPLAIN,
-    GRAPH, REPLAY, SCRIPT, SINK, STRICT, VERSION,
+    BESIDE, BOTH, CHECK, CHECK_END, COLUMNS, DRAW, DRAW_END, EVAL, EVAL_END, EVAL_WORKERS, EXPLAIN,
+    GRAPH, HELP, REPLAY, REPLAY_END, SCRIPT, SINK, STRICT, VERSION,
 };
-use crate::{Call, Explain, NoCall, Strict};
+use crate::{Call, Explain, NoCall, Strict, WORKERS_MAX};
+use clap::builder::ValueParser;
 use clap::error::ErrorKind;
 use clap::{Arg, ArgAction, ArgMatches, Command, Error};
 use std::alloc::{AllocError, Global};
@@ -68,6 +69,19 @@ pub(crate) fn beside_word<'a>(alloc: Global) -> Arg<'a>
         .help(BESIDE)
 }
 
+/// The word behind `--workers`, which may be given, with this text of help: how many threads there
+/// are.
+pub(crate) fn workers_word<'a>(alloc: Global, help: &'a str) -> Arg<'a>
+    ensures rule { rule_of result ≡ workers_rule }
+    ensures local { result.global ≡ false }
+{
+    Arg::new(alloc, "workers")
+        .long("workers")
+        .value_name("N")
+        .value_parser(ValueParser::unsigned(1, WORKERS_MAX as u64))
+        .help(help)
+}
+
 /// The word `--explain`, which may be given.
 pub(crate) fn explain_word<'a>(alloc: Global) -> Arg<'a>
     ensures rule { rule_of result ≡ explain_rule }
@@ -114,6 +128,7 @@ fn eval_command<'a>(alloc: Global) -> Result<Command<'a>, AllocError>
         .arg(sink_word(alloc))?
         .arg(columns_word(alloc))?
         .arg(beside_word(alloc))?
+        .arg(workers_word(alloc, EVAL_WORKERS))?
         .arg(explain_word(alloc))
 }
 
@@ -125,7 +140,7 @@ fn draw_command<'a>(alloc: Global) -> Result<Command<'a>, AllocError>
     graph_command(alloc, "draw", DRAW, DRAW_END)?.arg(explain_word(alloc))
 }
 
-/// A command line under the program's name, with no word and no command.
+/// A command line under the program's name, with no word, no command and no version.
 pub(crate) fn bare_command<'a>(
     alloc: Global,
     name: &'a str,
@@ -136,7 +151,6 @@ pub(crate) fn bare_command<'a>(
 {
     Command::new(alloc, "phase")
         .no_binary_name(true)
-        .version(VERSION)
         .about(about)
         .after_help(end)
         .bin_name(name)
@@ -168,7 +182,7 @@ fn replay_command<'a>(alloc: Global) -> Result<Command<'a>, AllocError>
 {
     Command::new(alloc, "replay")
         .about(REPLAY)
-        .after_help(END)
+        .after_help(REPLAY_END)
         .arg(script_word(alloc))?
         .arg(strict_word(alloc))
 }
@@ -190,7 +204,8 @@ fn with_command<'a>(
 fn command<'a>(alloc: Global) -> Result<Command<'a>, AllocError>
     ensures { IfOk result (λ c. app_of c ≡ phase_app) }
 {
-    let top = bare_command(alloc, "phase", ABOUT, END)?;
+    let top = bare_command(alloc, "phase", "", "")?;
+    let top = top.version(VERSION).override_help(HELP);
     let top = with_command(top, replay_command(alloc))?;
     let top = with_command(top, check_command(alloc))?;
     let top = with_command(top, eval_command(alloc))?;
@@ -365,7 +380,7 @@ fn parse<'a>(alloc: Global, words: &'a [String]) -> Result<Call<'a>, Error>
     Ok(call_of(&matches))
 }
 
-/// Whether `--columns` and `--sink` stand there together.
+/// Whether `--columns` stands there with `--sink` or `--workers`.
 fn has_conflict(matches: &ArgMatches<'_>) -> bool
     ensures { result ≡ has_conflict (subcommand_rows_of matches.now) }
 {
@@ -375,16 +390,23 @@ fn has_conflict(matches: &ArgMatches<'_>) -> bool
     }
 }
 
-/// Whether they do, by what clap found for a command's words.
+/// Whether it does, by what clap found for a command's words.
 fn has_both(own: &ArgMatches<'_>) -> bool
     ensures { result ≡ has_both (rows_of (found_of own.now)) }
 {
-    let columns = is_given(own.get_str("columns"));
-    let sink = own.get_str("sink");
-    columns && sink.is_some()
+    is_given(own.get_str("columns")) && names_other(own)
 }
 
-/// What is told of `--columns` and `--sink` together, as clap tells of words in conflict.
+/// Whether `--sink` or `--workers` stands there, by what clap found for a command's words.
+fn names_other(own: &ArgMatches<'_>) -> bool
+    ensures { result ≡ names_other (rows_of (found_of own.now)) }
+{
+    let sink = own.get_str("sink");
+    let workers = own.get_str("workers");
+    sink.is_some() || workers.is_some()
+}
+
+/// What is told of `--columns` beside one of them, as clap tells of words in conflict.
 fn conflict(alloc: Global) -> Error
     ensures { HasKind (ErrorKind.ArgumentConflict ∷ []) result }
 {

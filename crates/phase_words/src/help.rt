@@ -1,12 +1,5 @@
 //! The texts of help.
 
-/// What the program is.
-pub(crate) const ABOUT: &str = "\
-Replays a script of calls on a phaser, a barrier on which the tasks of a phase
-also add up a value, or evaluates a graph of filters over phasers. A script is
-read from standard input, a call a line, and each line is answered by one line
-on standard output.";
-
 /// The version of the program and of its libraries.
 pub(crate) const VERSION: &str = "0.2.0";
 
@@ -52,8 +45,9 @@ pub(crate) const TO_TWICE: &str =
 pub(crate) const COLUMNS: &str =
     "Write a table: a line of the sinks' names, then one for each step, with commas";
 
-/// What is said of `--columns` and `--sink` together.
-pub(crate) const BOTH: &str = "the argument '--columns' cannot be used with '--sink <NAME>'";
+/// What is said of `--columns` beside `--sink` or `--workers`.
+pub(crate) const BOTH: &str =
+    "the argument '--columns' cannot be used with '--sink <NAME>' or '--workers <N>'";
 
 /// What is said of `--columns` beside sinks that a stream names.
 pub(crate) const COLUMNS_BESIDE: &str =
@@ -79,12 +73,36 @@ long as they come, and those of others to files.";
 /// What the word `--counts` is.
 pub(crate) const COUNTS: &str = "Tell what each task did, behind all values, on standard error";
 
-/// What the word behind `--workers` is.
-pub(crate) const WORKERS_WORD: &str =
+/// What the word behind `--workers` is, of a run.
+pub(crate) const RUN_WORKERS: &str =
     "How many worker threads, from 1 to 16: 4 where none are named";
 
-/// The end of the program's help, and of that of `replay`.
-pub(crate) const END: &str = "\
+/// What it is of an evaluation.
+pub(crate) const EVAL_WORKERS: &str =
+    "How many threads make long lists, from 1 to 16: 1 where none are named";
+
+/// The program's help, whole: clap is not told of `run` and `stream`, which read their own words.
+pub(crate) const HELP: &str = "\
+Replays a script of calls on a phaser, a barrier on which the tasks of a phase
+also add up a value, or evaluates a graph of filters over phasers. A script is
+read from standard input, a call a line, and each line is answered by one line
+on standard output.
+
+Usage: phase [COMMAND]
+
+Commands:
+  replay  Replays the script, as `phase` with no command does
+  check   Reads a graph and the samples of its sources
+  eval    Writes the values of each sink of a graph
+  run     Writes the values of each sink of a graph, by a run on threads
+  stream  Writes the values of a sink of a graph, as its samples come
+  draw    Writes a drawing of a graph, as text for Graphviz
+  help    Writes this, and behind the name of a command what that does
+
+Options:
+  -h, --help     Print help
+  -V, --version  Print version
+
 Example, with the reply to each line and what it means:
   make sum 2 100    ok           a phaser that adds up, for phases 0 to 99
   add 0 1 sig       ok           task 0, which founded it, registers task 1
@@ -95,10 +113,6 @@ Example, with the reply to each line and what it means:
   wait 0            value 0 7    phase 0 is complete, and its value is 7
 A line that is no call is answered by `bad line`.
 
-More commands, of which `phase run --help` and `phase stream --help` tell more:
-  run     Writes the values of each sink of a graph, by a run on threads
-  stream  Writes the values of a sink of a graph, as its samples come
-
 Behind each command on a graph --explain says more of a fault, with a mark under
 the word, and of a graph that is checked.
 
@@ -106,6 +120,13 @@ Exit status: 0 done; 1 a graph or its samples are refused, or a line of a strict
 replay; 2 the words were not understood; 3 a value of a graph is out of range; 4
 every task of a run or a stream that was left waited for another; 5 a read or a
 write failed, or memory ran out.";
+
+/// The end of the help of `replay`.
+pub(crate) const REPLAY_END: &str = "\
+`phase --help` shows a script, with the reply to each line.
+
+Exit status: 0 done; 1 a line of a strict replay is refused; 2 the words were not
+understood; 5 a read or a write failed, or memory ran out.";
 
 /// The end of the help of `check`.
 pub(crate) const CHECK_END: &str = "\
@@ -138,8 +159,7 @@ and the file `numbers` the lines 1, 2 and 3, `phase eval sums` writes
 and `phase eval sums --sink out` the last three of these lines, which may be the
 samples of another source. With --columns the first line is `out`.
 
-With --workers N, from 1 to 16, and without --columns, N threads make long lists,
-a part each, and the output is the same: where the program has `run`.
+The output is the same by any number of threads. A program without `run` has one.
 
 Files are opened from the current folder, by their names as they are written,
 and with --beside those of the sources in the folder of the graph.

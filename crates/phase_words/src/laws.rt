@@ -6,9 +6,9 @@ ghost use Rattle.phase_words.specs.CommandLine.{AskCheckExplained, AskDrawExplai
 ghost use Rattle.phase_words.specs.CommandLine.{AskEvalExplained, AskReplay};
 ghost use Rattle.phase_words.specs.CommandLine.{AskReplayFile, AskReplayStrictly, AskVersion};
 ghost use Rattle.phase_words.specs.RunLine.{AreRunRefused, AskRun, AskRunExplained, AskRunHelp};
-ghost use Rattle.phase_words.specs.RunLine.{AreWorkersRefused, AskRunVersion, AsksRun, Run};
+ghost use Rattle.phase_words.specs.RunLine.{AreWorkersRefused, AsksRun, Run};
 ghost use Rattle.phase_words.specs.StreamLine.{AreStreamRefused, AskStream, AskStreamExplained};
-ghost use Rattle.phase_words.specs.StreamLine.{AskStreamHelp, AskStreamVersion, AsksStream};
+ghost use Rattle.phase_words.specs.StreamLine.{AskStreamHelp, AsksStream};
 
 use crate::Explain;
 
@@ -34,6 +34,20 @@ pub fn words_for_graphs()
         (codes "g") (Some (codes "out")) }
     ensures sink_first { AskEval (codes "eval" ∷ codes "--sink=out" ∷ codes "g" ∷ [])
         (codes "g") (Some (codes "out")) }
+{}
+
+/// `--workers` asks of an evaluation what is asked for without it, also of one sink. A number that
+/// is none from 1 to 16 is refused, and columns are.
+pub fn words_for_evaluations_by_workers()
+    ensures all { AskEval (codes "eval" ∷ codes "g" ∷ codes "--workers" ∷ codes "2" ∷ [])
+        (codes "g") None }
+    ensures sink { AskEval
+        (codes "eval" ∷ codes "--workers=16" ∷ codes "g" ∷ codes "--sink" ∷ codes "out" ∷ [])
+        (codes "g") (Some (codes "out")) }
+    ensures columns { AreRefused (codes "eval" ∷ codes "g" ∷ codes "--columns"
+        ∷ codes "--workers" ∷ codes "2" ∷ []) }
+    ensures none { AreRefused (codes "eval" ∷ codes "g" ∷ codes "--workers" ∷ codes "0" ∷ []) }
+    ensures check { AreRefused (codes "check" ∷ codes "g" ∷ codes "--workers" ∷ codes "2" ∷ []) }
 {}
 
 /// `phase eval g --columns` asks for the sinks of the graph in the file g as columns. With a sink
@@ -144,11 +158,15 @@ pub fn words_for_help()
     ensures eval_short { AskHelp (codes "eval" ∷ codes "-h" ∷ []) }
 {}
 
-/// `--version` and `-V` ask for the version. No command has one of its own.
+/// `--version` and `-V` ask for the version, and no command takes them.
 pub fn words_for_version()
     ensures long { AskVersion (codes "--version" ∷ []) }
     ensures short { AskVersion (codes "-V" ∷ []) }
     ensures of_eval { AreRefused (codes "eval" ∷ codes "--version" ∷ []) }
+    ensures of_workers { AreWorkersRefused
+        (codes "g" ∷ codes "--workers" ∷ codes "2" ∷ codes "-V" ∷ []) }
+    ensures of_run { AreRunRefused (codes "-V" ∷ []) }
+    ensures of_stream { AreStreamRefused (codes "--version" ∷ []) }
 {}
 
 /// A word that is no command, two files behind `replay`, a flag that is none, `run`, a sink behind
@@ -176,7 +194,6 @@ pub fn words_for_runs()
     ensures both { AskRun (codes "--workers" ∷ codes "2" ∷ codes "g" ∷ codes "--sink=out" ∷ [])
         (codes "g") (Some (codes "out")) 2 }
     ensures help { AskRunHelp (codes "--help" ∷ []) }
-    ensures version { AskRunVersion (codes "-V" ∷ []) }
 {}
 
 /// `--counts` asks of a run that it is told at the end what each task did. An evaluation by workers
@@ -229,7 +246,6 @@ pub fn words_for_streams()
     ensures sink_first { AskStream (codes "--sink=out" ∷ codes "g" ∷ [])
         (codes "g") (Some (codes "out")) }
     ensures help { AskStreamHelp (codes "--help" ∷ []) }
-    ensures version { AskStreamVersion (codes "-V" ∷ []) }
 {}
 
 /// A stream has one graph and one sink, and no workers. `stream` is no command of the program of

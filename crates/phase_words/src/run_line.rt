@@ -5,27 +5,14 @@ ghost use Rattle.clap.specs.Words.{is_simple_and_free, matches_of, rows_of, rule
 ghost use Rattle.phase_words.specs.CommandLine.{ExplainsNone, texts};
 ghost use Rattle.phase_words.specs.RunLine.{AsksRun, AsksWorkers, counts_rule, run_app, run_by};
 ghost use Rattle.phase_words.specs.RunLine.{run_kinds_of, run_of, workers_app, workers_kinds_of};
-ghost use Rattle.phase_words.specs.RunLine.{workers_of, workers_rule};
+ghost use Rattle.phase_words.specs.RunLine.{workers_of};
 
-use crate::command_line::{explain_of, explain_word, found_by, is_given, no_call};
-use crate::help::{COUNTS, EVAL, EVAL_END, RUN, RUN_END, WORKERS_WORD};
+use crate::command_line::{explain_of, explain_word, found_by, is_given, no_call, workers_word};
+use crate::help::{COUNTS, EVAL, EVAL_END, EVAL_WORKERS, RUN, RUN_END, RUN_WORKERS};
 use crate::sink_line::{graph_of, sink_command};
 use crate::{NoCall, RunCall, WORKERS, WORKERS_MAX};
-use clap::builder::ValueParser;
 use clap::{Arg, ArgAction, ArgMatches, Command, Error};
 use std::alloc::{AllocError, Global};
-
-/// The word behind `--workers`, which may be given: how many worker threads run a graph.
-fn workers_word<'a>(alloc: Global) -> Arg<'a>
-    ensures rule { rule_of result ≡ workers_rule }
-    ensures local { result.global ≡ false }
-{
-    Arg::new(alloc, "workers")
-        .long("workers")
-        .value_name("N")
-        .value_parser(ValueParser::unsigned(1, WORKERS_MAX as u64))
-        .help(WORKERS_WORD)
-}
 
 /// The word `--counts`, which may be given.
 fn counts_word<'a>(alloc: Global) -> Arg<'a>
@@ -39,17 +26,18 @@ fn counts_word<'a>(alloc: Global) -> Arg<'a>
 }
 
 /// The command line behind `phase eval` with `--workers`, and the front of that behind `phase run`,
-/// of this name and with these texts of help.
+/// of this name and with these texts of help, of which one is about the workers.
 fn workers_command<'a>(
     alloc: Global,
     name: &'a str,
     about: &'a str,
     end: &'a str,
+    workers: &'a str,
 ) -> Result<Command<'a>, AllocError>
     ensures { IfOk result (λ c. app_of c ≡ workers_app) }
 {
     sink_command(alloc, name, about, end)?
-        .arg(workers_word(alloc))?
+        .arg(workers_word(alloc, workers))?
         .arg(explain_word(alloc))
 }
 
@@ -57,7 +45,14 @@ fn workers_command<'a>(
 fn run_command<'a>(alloc: Global) -> Result<Command<'a>, AllocError>
     ensures { IfOk result (λ c. app_of c ≡ run_app) }
 {
-    workers_command(alloc, "phase run", RUN, RUN_END)?.arg(counts_word(alloc))
+    workers_command(alloc, "phase run", RUN, RUN_END, RUN_WORKERS)?.arg(counts_word(alloc))
+}
+
+/// The command line behind `phase eval`, of whose words one is `--workers`.
+fn by_workers_command<'a>(alloc: Global) -> Result<Command<'a>, AllocError>
+    ensures { IfOk result (λ c. app_of c ≡ workers_app) }
+{
+    workers_command(alloc, "phase eval", EVAL, EVAL_END, EVAL_WORKERS)
 }
 
 /// What the words ask for, by what clap found in them.
@@ -103,8 +98,8 @@ fn parse<'a>(
     Ok(call_of(&matches))
 }
 
-/// Reads the words behind `phase run`. Where they ask for help or for the version, or are refused,
-/// the text is clap's.
+/// Reads the words behind `phase run`. Where they ask for help, or are refused, the text is that of
+/// clap.
 pub fn read_run_words<'a>(alloc: Global, words: &'a [String]) -> Result<RunCall<'a>, NoCall>
     ensures call { IfOk result (λ call. AsksRun (texts words.now) (run_of call)) }
     ensures no_call { IfErr result (λ none. ExplainsNone (run_kinds_of (texts words.now)) none) }
@@ -115,14 +110,14 @@ pub fn read_run_words<'a>(alloc: Global, words: &'a [String]) -> Result<RunCall<
     }
 }
 
-/// Reads the words behind `phase eval`, of which one is `--workers`. Where they ask for help or for
-/// the version, or are refused, the text is clap's.
+/// Reads the words behind `phase eval`, of which one is `--workers`. Where they ask for help, or
+/// are refused, the text is that of clap.
 pub fn read_eval_words<'a>(alloc: Global, words: &'a [String]) -> Result<RunCall<'a>, NoCall>
     ensures call { IfOk result (λ call. AsksWorkers (texts words.now) (run_of call)) }
     ensures no_call { IfErr result (λ none.
         ExplainsNone (workers_kinds_of (texts words.now)) none) }
 {
-    match parse(workers_command(alloc, "phase eval", EVAL, EVAL_END), words) {
+    match parse(by_workers_command(alloc), words) {
         Ok(call) => Ok(call),
         Err(error) => Err(no_call(alloc, &error)),
     }

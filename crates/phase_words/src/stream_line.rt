@@ -97,8 +97,8 @@ fn parse<'a>(alloc: Global, words: &'a [String]) -> Result<StreamCall<'a>, Error
     Ok(call_of(alloc, &matches, &pairs)?)
 }
 
-/// Reads the words behind `phase stream`. Where they ask for help or for the version, or are
-/// refused, the text is clap's.
+/// Reads the words behind `phase stream`. Where they ask for help, or are refused, the text is
+/// clap's.
 pub fn read_stream_words<'a>(alloc: Global, words: &'a [String]) -> Result<StreamCall<'a>, NoCall>
     ensures call { IfOk result (λ call. AsksStream (texts words.now) (stream_asked call)) }
     ensures no_call { IfErr result

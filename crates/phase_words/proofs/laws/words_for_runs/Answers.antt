@@ -27,7 +27,3 @@ returns-clause-both c = record { taken = refl; run = refl }
 pub returns-clause-help : goal.returns-clause-help
 unfolding run_kinds_of run_app clap_on_literals
 returns-clause-help c = refl
-
-pub returns-clause-version : goal.returns-clause-version
-unfolding run_kinds_of run_app clap_on_literals
-returns-clause-version c = refl

@@ -27,7 +27,3 @@ returns-clause-sink_first c = record { taken = refl; stream = refl }
 pub returns-clause-help : goal.returns-clause-help
 unfolding stream_kinds_of stream_app clap_on_literals
 returns-clause-help c = refl
-
-pub returns-clause-version : goal.returns-clause-version
-unfolding stream_kinds_of stream_app clap_on_literals
-returns-clause-version c = refl
