@@ -10,12 +10,13 @@ mod run;
 mod way;
 
 use cli::run_cli;
-use phase_commands::hold_closed_streams;
+use phase_commands::{hold_closed_streams, point_to_check};
 use phase_replay::Watched;
 use phase_stream::StreamFiles;
+use phase_words::explain_to_person;
 use std::io::IsTerminal;
 use std::process::ExitCode;
-use watched_io::{Streams, own_words, refuse_words};
+use watched_io::{Status, Streams, own_words, refuse_words};
 use way::is_bare;
 
 /// What a person at a terminal is told where the input is replayed.
@@ -25,12 +26,16 @@ phase --help shows one\n";
 fn main(rt: HostRuntime) -> ExitCode {
     hold_closed_streams(&rt);
     let mut faults = Watched::new(rt.stderr());
-    let words = match own_words(&rt) {
+    let mut words = match own_words(&rt) {
         Ok(words) => words,
         Err(error) => return ExitCode::from(refuse_words(&error, &mut faults).code()),
     };
-    if is_bare(words.as_slice()) && rt.stdin().is_terminal() && rt.stderr().is_terminal() {
-        let _ = faults.send(READS);
+    let is_person = rt.stderr().is_terminal();
+    if is_person {
+        let _ = explain_to_person(rt.alloc(), &mut words);
+        if is_bare(words.as_slice()) && rt.stdin().is_terminal() {
+            let _ = faults.send(READS);
+        }
     }
     let mut input = Watched::new(rt.stdin());
     let mut streams = Streams {
@@ -47,5 +52,8 @@ fn main(rt: HostRuntime) -> ExitCode {
         &mut streams,
         &mut made,
     );
+    if is_person && status == Status::Done {
+        point_to_check(&rt, rt.alloc(), words.as_slice(), &mut streams.faults);
+    }
     ExitCode::from(status.code())
 }

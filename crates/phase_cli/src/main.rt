@@ -4,18 +4,24 @@
 #![tactic(auto)]
 
 use graph_commands::TellingFiles;
-use phase_commands::{hold_closed_streams, run_cli};
+use phase_commands::{hold_closed_streams, point_to_check, run_cli};
 use phase_replay::Watched;
+use phase_words::explain_to_person;
+use std::io::IsTerminal;
 use std::process::ExitCode;
-use watched_io::{Streams, own_words, refuse_words};
+use watched_io::{Status, Streams, own_words, refuse_words};
 
 fn main(rt: HostRuntime) -> ExitCode {
     hold_closed_streams(&rt);
     let mut faults = Watched::new(rt.stderr());
-    let words = match own_words(&rt) {
+    let mut words = match own_words(&rt) {
         Ok(words) => words,
         Err(error) => return ExitCode::from(refuse_words(&error, &mut faults).code()),
     };
+    let is_person = rt.stderr().is_terminal();
+    if is_person {
+        let _ = explain_to_person(rt.alloc(), &mut words);
+    }
     let mut input = Watched::new(rt.stdin());
     let mut streams = Streams {
         output: Watched::new(rt.stdout()),
@@ -23,5 +29,8 @@ fn main(rt: HostRuntime) -> ExitCode {
         files: TellingFiles::new(&rt),
     };
     let status = run_cli(rt.alloc(), words.as_slice(), &mut input, &mut streams);
+    if is_person && status == Status::Done {
+        point_to_check(&rt, rt.alloc(), words.as_slice(), &mut streams.faults);
+    }
     ExitCode::from(status.code())
 }

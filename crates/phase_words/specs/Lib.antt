@@ -1,3 +1,4 @@
+pub mod AtTerminal
 pub mod Answers
 pub mod CommandLine
 pub mod ClapErrors
