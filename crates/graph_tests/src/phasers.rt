@@ -35,7 +35,7 @@ fn opened(alloc: Global, op: Op) -> Result<AnyPhaser, Fail> {
 /// What it tells after a signal, after the wait for it, and after each of the two has left.
 fn steps(alloc: Global, op: Op) -> Result<[Told; 4], Fail> {
     let mut phaser = opened(alloc, op)?;
-    phaser.signal_sends(1, &[4], None)?;
+    phaser.signal(1, &[4], None)?;
     let signalled = told(&phaser);
     phaser.wait(2)?;
     let waited = told(&phaser);

@@ -37,7 +37,7 @@ use Rattle.graph_runs.proofs.OwnEvents.{made_still}
 use Rattle.graph_runs.proofs.Signalling.{values_few}
 use Rattle.graph_runs.proofs.SizedTurns.{turn_reached}
 use Rattle.stream_job.specs.Blocking.{called_on}
-use Rattle.stream_job.specs.InRange.{HasGone, IsGoodPart, TellsNone, are_blocked, blocks_before, is_blocked_before, is_held_up, stands_before, told_too_big, went_by}
+use Rattle.stream_job.specs.InRange.{HasGone, IsGoodPart, TellsNoFault, are_blocked, blocks_before, is_blocked_before, is_held_up, stands_before, told_too_big, went_by}
 use Rattle.stream_job.specs.Machines.{HasCores, IsMachine, IsMachineAt, KeepsLines, most_in}
 use Rattle.stream_job.specs.Places.{IsTaskAt, owed_in, place_in_state}
 use Rattle.stream_job.specs.Stepping.{IsNextIn, MayStep, good_in, is_at_rest, is_value_out, owed_many}
@@ -548,11 +548,11 @@ none_before from from' k (suc n) (x ∷ xs) found is =
 -- a signal of these tells none that is
 part_none : (job : Job) (old : Machine) (m : Moment) (t many : ℕ)
     → IsGoodPart many job old t → IsMachineAt job m old
-    → TellsNone job m (turn_up_to 1 many job m t)
+    → TellsNoFault job m (turn_up_to 1 many job m t)
 part_none job old m t many part at =
     let q = output_at job t 0 in
     let vs = values_up_to many job m t 0 in
-    subst (λ n. TellsNone job m (answer_up_to 1 many job m t n)) (sym (part.next m at))
+    subst (λ n. TellsNoFault job m (answer_up_to 1 many job m t n)) (sym (part.next m at))
     (turn_none job m t 0 vs (signal t 0 q (number_on m t q) vs)
     (λ made. none_before 0 (length (m.put t 0)) many many
     (drop (length (m.put t 0)) (made_now job m t 0)) (part.good m at) (omega arith)) refl)
@@ -597,14 +597,14 @@ pub owed_good : {steps : ℕ} (job : Job) (machine : Machine) (t j : ℕ) (state
     → IsNextIn steps job machine t (turns.signals j)
     → slice_get machine.tasks.items t ≡ Some state
     → good_in (owed_in state.owed state.made.items) ≡ None
-    → (m : Moment) → IsMachineAt job m machine → TellsNone job m (turn_in steps job machine m t)
+    → (m : Moment) → IsMachineAt job m machine → TellsNoFault job m (turn_in steps job machine m t)
 owed_good {steps} job machine t j state next found none m at =
     let most = most_in machine t in
     let o = owes_values most job m t j (owed_in state.owed state.made.items)
     (stands_in job machine m t state at found).owes (next.is m at) in
     let vs = values_up_to most job m t j in
     let q = output_at job t j in
-    subst (λ n. TellsNone job m (answer_up_to steps most job m t n)) (sym (next.is m at))
+    subst (λ n. TellsNoFault job m (answer_up_to steps most job m t n)) (sym (next.is m at))
     (turn_none job m t j vs (signal t j q (number_on m t q) vs)
     (λ made. none_over vs o.0 0 (length (m.put t j)) o.2 (sym (ap good_in o.1) ∙ none)) refl)
 

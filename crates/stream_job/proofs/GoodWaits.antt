@@ -33,16 +33,14 @@ use Rattle.graph_runs.proofs.Blocks.{block_few, block_some}
 use Rattle.graph_runs.specs.Nexts as turns
 use Rattle.graph_runs.specs.Nexts.{Next, next_of}
 use Rattle.graph_runs.specs.TaskEvents.{exchange_wait, first_wait}
-use Rattle.graph_runs.proofs.SizedTurns.{turn_reached}
-use Rattle.stream_job.specs.InRange.{IsGoodSize, TellsNone, is_plain, stands_before, told_too_big}
+use Rattle.stream_job.specs.InRange.{IsGoodSize, TellsNoFault, is_no_fault, stands_before, told_too_big}
 use Rattle.stream_job.specs.Machines.{IsMachineAt, most_in}
 use Rattle.stream_job.specs.Stepping.{HasRoomAt, HasRoomIn, IsNextIn}
 use Rattle.stream_job.specs.Turning.{turn_in}
 use Rattle.stream_job.specs.declared.machine.Machine.{Machine}
 use Rattle.stream_job.specs.declared.task_state.TaskState.{TaskState}
 use Rattle.stream_job.proofs.GoodSizes.{block_fewer, fewer_steps}
-use Rattle.stream_job.proofs.Numbering.{few_after}
-use Rattle.stream_job.proofs.Stalling.{never_refused}
+use Rattle.stream_job.proofs.SizedNexts.{sized_next}
 use Rattle.stream_job.proofs.Exchanges.{never_ended}
 use Rattle.stream_job.proofs.FirstTurns.{first_never_ended}
 use Rattle.stream_job.proofs.Waits.{AsksFirst, GotAll, blocks, blocks_all, exchange_so, exchange_waits_at, first_so, first_waits_at, got_all}
@@ -173,19 +171,10 @@ got_part job m p n phase count outcomes reply are =
 
 pub next_fewer : {steps : ℕ} (job : Job) (old : Machine) (t n : ℕ) (next : Next)
     → IsNextIn steps job old t next → 1 ≤ n → n ≤ steps → IsNextIn n job old t next
-next_fewer {steps} job old t n next is some few =
-    let sized = fewer_steps job old t n some few is.sized in
-    record {
-      some = is.some;
-      sized = sized;
-      small = (let small = is.small in omega arith);
-      sends = is.sends;
-      is = is.is;
-      stays = λ m at. turn_reached n (most_in old t) job m t sized at.graph at.reached;
-      few = λ m at. few_after job m t sized at.graph at.reached at.few;
-      answered = λ m at. never_refused job m t (next_of job m t) sized at.graph is.sends
-          at.reached refl;
-    }
+next_fewer job old t n next is some few =
+    let small = is.small in
+    sized_next job old t next is.some (fewer_steps job old t n some few is.sized) (omega arith)
+    is.sends is.is
 
 -- what the task asks of its phaser by fewer steps
 pub asks_fewer : {allowed : ℕ} (job : Job) (old : Machine) (t k number p steps n : ℕ)
@@ -358,9 +347,9 @@ block_some_of {allowed} job old m t k number p steps state asks at =
 -- a block that tells no value too big
 told_none : (m : Moment) (p n phase : ℕ) (outcomes : List Outcome)
     → phase ≡ wait_phase (m.history p) n → position_from is_too_big phase outcomes ≡ None
-    → is_plain (Some (told_wait m p n outcomes)) ≡ true
+    → is_no_fault (Some (told_wait m p n outcomes)) ≡ true
 told_none m p n phase outcomes same none =
-    subst (λ w. is_plain (Some (told_got p w outcomes)) ≡ true) same (rw none refl)
+    subst (λ w. is_no_fault (Some (told_got p w outcomes)) ≡ true) same (rw none refl)
 
 -- what a wait got by its event
 abbrev outcomes_in : Answer → List Outcome
@@ -397,7 +386,7 @@ module _ {allowed : ℕ} (job : Job) (old : Machine) (t k number p steps : ℕ) 
         (wait_block_reply (limits_at job p) (m.history p) number steps) r (told m at) in
         let answer : turn_in allowed job old m t ≡ block_answer event (Err r) =
         first_so job old m t k number p steps state asks at ∙ ap (block_answer event) reply in
-        subst (TellsNone job m) (sym (answer ∙ blocks_all event r (λ e.
+        subst (TellsNoFault job m) (sym (answer ∙ blocks_all event r (λ e.
         asks.next.answered m at (answer ∙ e)))) refl))
 
     pub wait_never_ended : Told (Ok block.Ended) → ⊥
@@ -462,7 +451,7 @@ module _ {allowed : ℕ} (job : Job) (old : Machine) (t k number p steps : ℕ) 
               (let w = would m at in
               let tells = block_tells (limits_at job p) (m.history p) number steps phase w.all
               w.reply_is in
-              subst (TellsNone job m) (sym (answer m at))
+              subst (TellsNoFault job m) (sym (answer m at))
               (told_none m p number phase (outcomes m) tells.phase_is (are_good m at).none));
           makes = λ apart m at. (first_wait t k p number (outcomes m), answer m at);
           room = λ m at room i q n others other next is found sink.
@@ -539,7 +528,7 @@ module _ {allowed : ℕ} (job : Job) (old : Machine) (t number p : ℕ) (state :
         let answer : turn_in allowed job old m t ≡ wait_answer (exchange_wait t p number) (Err r) =
         exchange_so job old m t number p state next at found phaser numbered
         ∙ ap (wait_answer (exchange_wait t p number)) reply in
-        subst (TellsNone job m) (sym (answer ∙ blocks (exchange_wait t p number) r (λ e.
+        subst (TellsNoFault job m) (sym (answer ∙ blocks (exchange_wait t p number) r (λ e.
         next.answered m at (answer ∙ e)))) refl))
 
     pub exchange_never_ended : ToldOne (Ok block.Ended) → ⊥
@@ -573,6 +562,6 @@ module _ {allowed : ℕ} (job : Job) (old : Machine) (t number p : ℕ) (state :
         ∙ ap (wait_answer (exchange_wait t p number)) (one_is (value_at job p) (limits_at job p)
         (m.history p) number phase x (subst (λ n. wait_block_reply (limits_at job p) (m.history p)
         number n ≡ Ok (block.Values phase n)) one reply) slice) in
-        subst (TellsNone job m) (sym answer)
+        subst (TellsNoFault job m) (sym answer)
         (told_none m p number phase (x ∷ []) tells.phase_is
         (ap (position_from is_too_big phase) (sym is) ∙ good.none))))

@@ -66,3 +66,4 @@ pub mod FedStands
 pub mod FedLooks
 pub mod FedRuns
 pub mod StillStays
+pub mod SizedNexts

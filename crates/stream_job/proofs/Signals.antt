@@ -426,11 +426,6 @@ some_items made e is =
     let zero_is : made.len ≡ 0 = many ∙ ap length is in
     (let wrong : true ≡ false = sym (eq-eqb made.len 0 zero_is) ∙ e in cc)
 
--- a filter that has signalled owes nothing
-pub filter_owes : (task : Task) (vs : List ℤ) → task.kind ≡ Fir
-    → places.nothing ≡ owed_after_signal task 0 vs
-filter_owes task vs kind = rw kind refl
-
 -- the values that a filter has made fit in the places of a turn
 pub made_few : (job : Job) (machine : Machine) (m : Moment) (t j : ℕ) (state : TaskState)
     → IsMachineAt job m machine → slice_get machine.tasks.items t ≡ Some state

@@ -221,13 +221,6 @@ turn_parks_so world m t it parked none s same =
         world.parked
     as_is world none = rw none refl
 
--- of these sizes
-pub turn_told_so : (steps most : ℕ) (job : Job) (m : Moment) (t : ℕ) (it : Made) (word : Turned)
-    → MadeShows job m t (turn_up_to steps most job m t) it → word ≡ told_by it t
-    → tells_up_to steps most job m t ≡ Some (told_of word)
-turn_told_so steps most job m t it word s same =
-    tells_so job m t (turn_up_to steps most job m t) it s ∙ ap (λ w. Some (told_of w)) (sym same)
-
 -- ---- a turn that makes a block of the line
 
 -- what it makes is what the table says, where one event signals such a block

@@ -19,7 +19,7 @@ use Rattle.graph_runs.specs.Nexts as nexts
 use Rattle.graph_runs.specs.Nexts.{Next, at_boundary, first_due, first_kept, first_missing, first_owed, has_input_ended, is_cut, is_live, next_of, next_step, number_on, of_live, waits_first}
 use Rattle.graph_runs.specs.TaskEvents as events
 use Rattle.graph_runs.specs.TaskEvents.{TaskEvent, after_turn}
-use Rattle.stream_job.specs.InRange.{HasGone, HasMoved, HasStayed, IsGoodSize, TellsNone, is_blocked_before, is_plain, went_by}
+use Rattle.stream_job.specs.InRange.{HasGone, HasMoved, HasStayed, IsGoodSize, TellsNoFault, is_blocked_before, is_no_fault, went_by}
 use Rattle.stream_job.specs.Machines.{IsMachine, IsMachineAt, KeepsLines, most_in}
 use Rattle.stream_job.specs.Places.{place_in_state}
 use Rattle.stream_job.specs.Stepping.{IsNextIn, is_at_rest, would_block}
@@ -36,7 +36,7 @@ use Rattle.graph_runs.proofs.Signalling.{live-is}
 -- ---- who tells no value out of range
 
 signals_none : (job : Job) (m : Moment) (event : TaskEvent) (o : Option SignalRefusal)
-    → TellsNone job m (makes event) → TellsNone job m (signal_answer event o)
+    → TellsNoFault job m (makes event) → TellsNoFault job m (signal_answer event o)
 signals_none job m event None quiet = quiet
 signals_none job m event (Some refusals.NoTask) quiet = refl
 signals_none job m event (Some refusals.NoSignal) quiet = refl
@@ -52,14 +52,14 @@ signals_none job m event (Some refusals.BadBlock) quiet = refl
 pub turn_none : (job : Job) (m : Moment) (t j : ℕ) (vs : List ℤ) (event : TaskEvent)
     → (are_made (task_at job.graph t).kind j ≡ true
     → position_from is_out_of_range (length (m.put t j)) vs ≡ None)
-    → TellsNone job m (makes event) → TellsNone job m (signal_turn job m t j vs event)
+    → TellsNoFault job m (makes event) → TellsNoFault job m (signal_turn job m t j vs event)
 turn_none job m t j vs event good quiet =
     by (position_from is_out_of_range (length (m.put t j)) vs) refl
     (are_made (task_at job.graph t).kind j) refl
   where
     by : (o : Option ℕ) → position_from is_out_of_range (length (m.put t j)) vs ≡ o → (b : Bool)
         → are_made (task_at job.graph t).kind j ≡ b
-        → TellsNone job m (signal_turn job m t j vs event)
+        → TellsNoFault job m (signal_turn job m t j vs event)
     by None e b made =
         rw e (signals_none job m event (signal_refusal (limits_at job (output_at job t j))
         (m.history (output_at job t j)) (number_on m t (output_at job t j)) (map one vs)
@@ -69,17 +69,17 @@ turn_none job m t j vs event good quiet =
     by (Some step) e false made = rw e (rw made refl)
 
 accepted_none : {R : Type 0} (job : Job) (m : Moment) (event : TaskEvent) (o : Option R)
-    → TellsNone job m (makes event) → TellsNone job m (accepted_answer event o)
+    → TellsNoFault job m (makes event) → TellsNoFault job m (accepted_answer event o)
 accepted_none job m event None quiet = quiet
 accepted_none job m event (Some refusal) quiet = refl
 
 -- a registration
 register_none : (job : Job) (m : Moment) (t c : ℕ) (o : Option Registration)
-    → TellsNone job m (call_register job m t c o)
+    → TellsNoFault job m (call_register job m t c o)
 register_none job m t c None = refl
 register_none job m t c (Some r) = of (task_at job.graph c).joins_now
   where
-    of : (b : Bool) → TellsNone job m (register_answer m t c r b)
+    of : (b : Bool) → TellsNoFault job m (register_answer m t c r b)
     of true =
         let n = number_on m t r.phaser in
         let a = greatest_used (m.history r.phaser) + 1 in
@@ -93,14 +93,14 @@ register_none job m t c (Some r) = of (task_at job.graph c).joins_now
 
 -- a drop
 leave_none : (job : Job) (m : Moment) (t : ℕ) (o : Option Registration)
-    → TellsNone job m (call_leave m t o)
+    → TellsNoFault job m (call_leave m t o)
 leave_none job m t None = refl
 leave_none job m t (Some r) =
     accepted_none job m (events.leave t r.phaser (number_on m t r.phaser))
     (drop_refusal (m.history r.phaser) (number_on m t r.phaser))
     (by (is_live job (after_turn job (events.leave t r.phaser (number_on m t r.phaser)) m) t))
   where
-    by : (b : Bool) → is_plain (Some (cond b Moved Ended)) ≡ true
+    by : (b : Bool) → is_no_fault (Some (cond b Moved Ended)) ≡ true
     by true = refl
     by false = refl
 
@@ -112,7 +112,7 @@ IsQuiet job t nexts.samples = (task_at job.graph t).kind ≡ Source
 IsQuiet job t next = ⊥
 
 pub quiet_none : (steps most : ℕ) (job : Job) (m : Moment) (t : ℕ) (next : Next)
-    → IsQuiet job t next → TellsNone job m (answer_up_to steps most job m t next)
+    → IsQuiet job t next → TellsNoFault job m (answer_up_to steps most job m t next)
 quiet_none steps most job m t (nexts.registers c) quiet =
     register_none job m t c (first_missing job m c)
 quiet_none steps most job m t nexts.leaves quiet = leave_none job m t (first_kept job m t)
@@ -133,7 +133,7 @@ quiet_none steps most job m t nexts.exchanges quiet = absurd quiet
 pub had_moved : {steps most : ℕ} (job : Job) (old new : Machine) (t p : ℕ) (told : Turned)
     → MaySize job.graph t steps most
     → HadTurnBy steps most job old new t (made.Event p told)
-    → ((m : Moment) → IsMachineAt job m old → TellsNone job m (turn_up_to steps most job m t))
+    → ((m : Moment) → IsMachineAt job m old → TellsNoFault job m (turn_up_to steps most job m t))
     → HasMoved job old new t
 had_moved {steps} {most} job old new t p told sized had none = record {
   steps = steps;
@@ -141,7 +141,7 @@ had_moved {steps} {most} job old new t p told sized had none = record {
   sized = sized;
   moves = λ m at. event_of m (turn_up_to steps most job m t) (had.shows m at);
   good = λ m there at told.
-      (let wrong : false ≡ true = sym (ap is_plain told) ∙ none m at in cc);
+      (let wrong : false ≡ true = sym (ap is_no_fault told) ∙ none m at in cc);
   after = had.after;
   lines = had.lines;
   own = had.own;
@@ -282,12 +282,12 @@ gone_stays job old t gone = record {
 -- a turn that tells no value out of range met none, and its task was live
 pub never_out : {steps most : ℕ} (job : Job) (old new : Machine) (t step : ℕ) → IsMachine job old
     → HadTurnBy steps most job old new t (made.OutOfRange step)
-    → ((m : Moment) → IsMachineAt job m old → TellsNone job m (turn_up_to steps most job m t)) → ⊥
+    → ((m : Moment) → IsMachineAt job m old → TellsNoFault job m (turn_up_to steps most job m t)) → ⊥
 never_out {steps} {most} job old new t step some had none =
     by (turn_up_to steps most job some.0 t) (had.shows some.0 some.1) (none some.0 some.1)
   where
     by : (answer : Answer) → MadeShows job some.0 t answer (made.OutOfRange step)
-        → TellsNone job some.0 answer → ⊥
+        → TellsNoFault job some.0 answer → ⊥
     by (makes event) shows quiet = shows
     by is_blocked shows quiet = shows
     by is_gone shows quiet = shows
@@ -296,12 +296,12 @@ never_out {steps} {most} job old new t step some had none =
 
 pub never_gone : {steps most : ℕ} (job : Job) (old new : Machine) (t : ℕ) → IsMachine job old
     → HadTurnBy steps most job old new t made.Nothing
-    → ((m : Moment) → IsMachineAt job m old → TellsNone job m (turn_up_to steps most job m t)) → ⊥
+    → ((m : Moment) → IsMachineAt job m old → TellsNoFault job m (turn_up_to steps most job m t)) → ⊥
 never_gone {steps} {most} job old new t some had none =
     by (turn_up_to steps most job some.0 t) (had.shows some.0 some.1) (none some.0 some.1)
   where
     by : (answer : Answer) → MadeShows job some.0 t answer made.Nothing
-        → TellsNone job some.0 answer → ⊥
+        → TellsNoFault job some.0 answer → ⊥
     by (makes event) shows quiet = shows
     by is_blocked shows quiet = shows
     by is_gone shows quiet = (let wrong : false ≡ true = quiet in cc)
@@ -329,7 +329,7 @@ had_sized job old new t made.Nothing size sized some had =
 
 -- all steps that a task may make are a size, where they tell no value out of range
 pub all_steps : {steps : ℕ} (job : Job) (old : Machine) (t : ℕ) → 1 ≤ steps
-    → ((m : Moment) → IsMachineAt job m old → TellsNone job m (turn_in steps job old m t))
+    → ((m : Moment) → IsMachineAt job m old → TellsNoFault job m (turn_in steps job old m t))
     → IsGoodSize steps steps job old t
 all_steps job old t some good = record {
   some = some;
@@ -345,5 +345,5 @@ pub quiet_steps : {steps : ℕ} (job : Job) (old : Machine) (t : ℕ) (next : Ne
     → IsGoodSize steps steps job old t
 quiet_steps {steps} job old t next is quiet some =
     all_steps job old t some
-    (λ m at. subst (λ n. TellsNone job m (answer_up_to steps (most_in old t) job m t n))
+    (λ m at. subst (λ n. TellsNoFault job m (answer_up_to steps (most_in old t) job m t n))
     (sym (is.is m at)) (quiet_none steps (most_in old t) job m t next quiet))

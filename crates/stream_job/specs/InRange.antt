@@ -109,21 +109,22 @@ HasGone steps job old new t (went.Before place phase) = HasHalted job old new t 
 -- ---- what is ahead
 
 -- whether it is told that the task moved or was blocked, or nothing
-abbrev pub is_plain : Option Told → Bool
-is_plain (Some (TooBig at)) = false
-is_plain (Some Gone) = false
-is_plain told = true
+abbrev pub is_no_fault : Option Told → Bool
+is_no_fault (Some (TooBig at)) = false
+is_no_fault (Some Gone) = false
+is_no_fault told = true
 
 -- of this answer it is
-abbrev pub TellsNone : Job → Moment → Answer → Type 0
-TellsNone job m answer = is_plain (word_of_answer job m answer) ≡ true
+abbrev pub TellsNoFault : Job → Moment → Answer → Type 0
+TellsNoFault job m answer = is_no_fault (word_of_answer job m answer) ≡ true
 
 -- a turn of so many steps, of those that task t may make, tells no value out of range; where it has
 -- fewer, it makes an event, and where the line of a sink has room for all, it has room for these
 pub record IsGoodSize (steps n : ℕ) (job : Job) (machine : Machine) (t : ℕ) : Type 0 where
   pub some : 1 ≤ n
   pub few : n ≤ steps
-  pub good : (m : Moment) → IsMachineAt job m machine → TellsNone job m (turn_in n job machine m t)
+  pub good : (m : Moment) → IsMachineAt job m machine
+      → TellsNoFault job m (turn_in n job machine m t)
   pub makes : n ≢ steps → (m : Moment) → IsMachineAt job m machine
       → (event : TaskEvent) × (turn_in n job machine m t ≡ makes event)
   pub room : (m : Moment) → IsMachineAt job m machine → HasRoomAt steps job machine t m

@@ -68,10 +68,10 @@ abbrev pub turn_in : ℕ → Job → Machine → Moment → ℕ → Answer
 turn_in steps job machine m t = turn_up_to steps (most_in machine t) job m t
 
 -- the machine had a turn of task t of at most so many steps, or of so many of the values that it
--- owes, of which the code tells so: at each moment that the machine stood for it tells the answer of
--- the table, and the machine stands for the moment after, where no wait was answered a value too big
--- before. The lines have kept what the sinks received, and have the room that they had, and each
--- task signals as much in one event
+-- owes, of which the code tells so: at each moment that the machine stood for it tells the answer
+-- of the table, and the machine stands for the moment after, where no wait was answered a value too
+-- big before. The lines have kept what the sinks received, and have the room that they had, and
+-- each task signals as much in one event
 pub record HadTurnBy (steps most : ℕ) (job : Job) (old new : Machine) (t : ℕ) (it : Made) : Type 0
   where
     pub shows : (m : Moment) → IsMachineAt job m old

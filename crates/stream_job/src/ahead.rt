@@ -13,7 +13,7 @@ ghost use Rattle.stream_job.specs.Stepping.{HasRoomNext, IsNextIn, MayStep};
 use crate::buffers::Buffers;
 use crate::machine::Machine;
 use crate::plan::Plan;
-use crate::step::Step;
+use crate::step::{SizedStep, Step};
 use crate::went::Went;
 use graph_lang::Place;
 use graph_runs::{input_of, sized};
@@ -68,7 +68,8 @@ impl Machine {
             Ahead::Before { place, phase } => Ok(Went::Before { place, phase }),
             Ahead::Values { many } => Ok(self.signal_made(job, buffers, t, many).went()),
             Ahead::Steps { most } => Ok(
-                self.make(job, plan, buffers, t, awaits, step, most)?.went(),
+                self.make(job, plan, buffers, t, awaits, SizedStep { step, most })?
+                    .went(),
             ),
         }
     }

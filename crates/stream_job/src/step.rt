@@ -18,3 +18,10 @@ pub enum Step {
     /// A peer waits on E.
     Exchange,
 }
+
+/// The call that a task makes next, of at most so many steps.
+#[derive(Clone, Copy)]
+pub struct SizedStep {
+    pub step: Step,
+    pub most: u64,
+}

@@ -22,7 +22,7 @@ use crate::buffers::Buffers;
 use crate::machine::Machine;
 use crate::made::Made;
 use crate::plan::Plan;
-use crate::step::Step;
+use crate::step::{SizedStep, Step};
 use crate::task_state::TaskState;
 use crate::turned::Turned;
 use graph_lang::Place;
@@ -49,21 +49,21 @@ impl Machine {
         buffers: &mut Buffers,
         t: usize,
         awaits: &[i64],
-        step: Step,
-        most: u64,
+        sized: SizedStep,
     ) -> Result<Made, AllocError>
         requires came { (s : List (List ℤ)) × MayHaveCome job.now self.old t awaits.now s
-            × HasRoomNext most (with_samples s job.now) self.old t }
+            × HasRoomNext sized.most (with_samples s job.now) self.old t }
         requires step { (s : List (List ℤ)) (m : Moment)
             → MayHaveCome job.now self.old t awaits.now s
             → IsMachineAt (with_samples s job.now) m self.old
-            → turns.next_of (with_samples s job.now) m t ≡ next_by step }
-        requires most { MayStep job.now self.old t most × (most ≤ most_steps job.now t) }
+            → turns.next_of (with_samples s job.now) m t ≡ next_by sized.step }
+        requires most { MayStep job.now self.old t sized.most
+            × (sized.most ≤ most_steps job.now t) }
         requires plan { IsPlan job.now plan.now }
         requires places { HasPlaces job.now buffers.old }
         ensures made { IfOk result (λ made. (s : List (List ℤ))
             → MayHaveCome job.now self.old t awaits.now s
-            → HadTurn most (with_samples s job.now) self.old self.new t made) }
+            → HadTurn sized.most (with_samples s job.now) self.old self.new t made) }
         ensures err { OnErr result (self.new ≡ self.old) }
         ensures memory { OnErr result ((s : List (List ℤ)) (m : Moment)
             → MayHaveCome job.now self.old t awaits.now s
@@ -72,13 +72,13 @@ impl Machine {
         ensures places { buffers.new ≡ buffers.old }
     {
         sized::turns_up_to();
-        match step {
+        match sized.step {
             Step::NotLive => Ok(Made::Nothing),
             Step::Register { child } => self.register_child(job, t, child),
             Step::Leave => Ok(self.leave(job, t)),
-            Step::Sample => Ok(self.signal_samples(job, plan, buffers, t, awaits, most)),
+            Step::Sample => Ok(self.signal_samples(job, plan, buffers, t, awaits, sized.most)),
             Step::Signal { output } => Ok(self.signal_owed(job, buffers, t, output)),
-            Step::Wait { input } => Ok(self.wait_first(job, plan, buffers, t, input, most)),
+            Step::Wait { input } => Ok(self.wait_first(job, plan, buffers, t, input, sized.most)),
             Step::Exchange => Ok(self.wait_exchange(job, t)),
         }
     }

@@ -17,7 +17,7 @@ use crate::opening::opened_lines;
 use crate::parked::Parked;
 use crate::plan::Plan;
 use crate::plan_blocks::line_block;
-use crate::step::Step;
+use crate::step::{SizedStep, Step};
 use crate::turned::Turned;
 use graph_lang::Place;
 use graph_runs::{moments, outcomes, turns};
@@ -209,10 +209,13 @@ impl<'a> World<'a> {
         let block = line_block(self.job, task);
         let awaits = self.machine.awaits(self.job, &self.plan, task);
         let (plan, buffers) = (&self.plan, &mut self.buffers);
-        let step = self.machine.next(self.job, plan, task, awaits);
+        let sized = SizedStep {
+            step: self.machine.next(self.job, plan, task, awaits),
+            most: block,
+        };
         let made = self
             .machine
-            .make(self.job, plan, buffers, task, awaits, step, block)?;
+            .make(self.job, plan, buffers, task, awaits, sized)?;
         self.parked.note(made, task);
         self.plan.pass(self.job, &self.machine.tasks, task);
         let told = made.told(task);

@@ -1,11 +1,10 @@
 -- A turn of the size that was found ahead is one that takes no value out of range.
 use Rattle.std.proofs.Common.{◌≡◌, ◌≢◌, ℕ, ℤ, List, refl, sym, subst, arith}
 use Rattle.stream_lists.specs.Jobs.{Job, with_samples}
-use Rattle.graph_runs.proofs.Signalling.{live-is}
 use Rattle.graph_runs.specs.Moments.{Moment}
 use Rattle.graph_runs.specs.Nexts.{Next, next_of, signals}
 use Rattle.stream_job.specs.InRange.{HasGone, IsAhead}
-use Rattle.stream_job.specs.Machines.{IsMachineAt, MayHaveCome, most_in, next_by}
+use Rattle.stream_job.specs.Machines.{IsMachineAt, MayHaveCome, next_by}
 use Rattle.stream_job.specs.Stepping.{IsNextIn}
 use Rattle.stream_job.specs.declared.ahead.Ahead.{Ahead}
 use Rattle.stream_job.specs.declared.ahead.Ahead.TheVariants as ahead
@@ -13,8 +12,7 @@ use Rattle.stream_job.specs.declared.machine.Machine.{Machine}
 use Rattle.stream_job.specs.declared.step.Step.TheVariants as step
 use Rattle.stream_job.proofs.GoodSignals.{had_part}
 use Rattle.stream_job.proofs.GoodSizes.{fewer_steps}
-use Rattle.stream_job.proofs.Lively.{live_next, makes_one}
-use Rattle.stream_job.proofs.Numbering.{few_after}
+use Rattle.stream_job.proofs.SizedNexts.{came_next}
 use Rattle.stream_job.proofs.WentTurns.{had_sized}
 use Rattle.stream_job.proofs.machine.Machine.go.Goals.{After-ahead, After-next-step}
 use Rattle.stream_job.proofs.machine.Machine.go.Goals as goal
@@ -25,24 +23,8 @@ next_in : (c : After-next-step) → c.next-step.result ≢ step.NotLive → (s :
     → IsNextIn c.args.most (with_samples s c.args.job.now) c.args.self.now c.args.t
     (next_by c.next-step.result)
 next_in c lives s may =
-    let job = with_samples s c.args.job.now in
-    let it = c.next-step.result in
-    let sends = may.sends (live-is job may.stands.0 c.args.t (live_next job may.stands.0 c.args.t
-    (next_by it) (c.next-step.ensures s may.stands.0 may.stands.1
-    (may.awaits may.stands.0 may.stands.1)) (makes_one it lives))).there in
-    record {
-      some = may.stands;
-      sized = c.requires.most.0;
-      small = c.requires.most.1;
-      sends = sends;
-      is = λ m at. c.next-step.ensures s m at (may.awaits m at);
-      stays = λ m at. c.turns_up_to.ensures.reached c.args.most
-          (most_in c.args.self.now c.args.t) job m c.args.t c.requires.most.0 at.graph at.reached;
-      few = λ m at. few_after job m c.args.t c.requires.most.0 at.graph at.reached at.few;
-      answered = λ m at.
-          c.turns_up_to.ensures.answered c.args.most (most_in c.args.self.now c.args.t) job m c.args.t
-          c.requires.most.0 at.graph sends at.reached;
-    }
+    came_next c.args.job.now c.args.self.now c.args.t c.next-step.result c.args.awaits.now s lives may
+    c.requires.most.0 c.requires.most.1 (λ m at. c.next-step.ensures s m at (may.awaits m at))
 
 -- where it signals on its first output
 next_signals : {steps : ℕ} {job : Job} {machine : Machine} {t : ℕ} {next : Next}

@@ -1,60 +1,40 @@
 -- No turn is refused, and turns lead to moments that are reached.
 use Rattle.std.proofs.Common.{◌≡◌, ◌≢◌, ℤ, List, ap, ◌∙◌, sym, subst}
 use Rattle.stream_lists.specs.Jobs.{with_samples}
-use Rattle.graph_runs.proofs.Signalling.{live-is}
 use Rattle.stream_job.specs.Stepping.{IsNextIn, MayDo}
-use Rattle.stream_job.specs.Machines.{MayHaveCome, most_in, next_by}
+use Rattle.stream_job.specs.Machines.{MayHaveCome, next_by}
 use Rattle.stream_job.specs.Turning.{IsRegistration}
 use Rattle.stream_job.specs.declared.step.Step.{Step}
 use Rattle.stream_job.specs.declared.step.Step.TheVariants as step
-use Rattle.stream_job.proofs.Lively.{live_next, makes_one}
-use Rattle.stream_job.proofs.Numbering.{few_after}
 use Rattle.stream_job.proofs.Setting.{if_ok, on_err}
+use Rattle.stream_job.proofs.SizedNexts.{came_next}
 use Rattle.stream_job.proofs.Tellings.{gone_turn}
 use Rattle.stream_job.proofs.machine.Machine.make.Goals.{After-turns_up_to}
 use Rattle.stream_job.proofs.machine.Machine.make.Goals as goal
 
 -- with whatever samples may have come this is what a live task does next
-next_in : (c : After-turns_up_to) → c.args.step ≢ step.NotLive → (s : List (List ℤ))
+next_in : (c : After-turns_up_to) → c.args.sized.step ≢ step.NotLive → (s : List (List ℤ))
     → MayHaveCome c.args.job.now c.args.self.now c.args.t c.args.awaits.now s
-    → IsNextIn c.args.most (with_samples s c.args.job.now) c.args.self.now c.args.t
-    (next_by c.args.step)
+    → IsNextIn c.args.sized.most (with_samples s c.args.job.now) c.args.self.now c.args.t
+    (next_by c.args.sized.step)
 next_in c lives s may =
-    let job = with_samples s c.args.job.now in
-    record {
-      some = may.stands;
-      sized = c.requires.most.0;
-      small = c.requires.most.1;
-      sends = may.sends (live-is job may.stands.0 c.args.t (live_next job may.stands.0 c.args.t
-          (next_by c.args.step) (c.requires.step s may.stands.0 may may.stands.1)
-          (makes_one c.args.step lives))).there;
-      is = λ m at. c.requires.step s m may at;
-      stays = λ m at. c.turns_up_to.ensures.reached c.args.most
-          (most_in c.args.self.now c.args.t) job m c.args.t c.requires.most.0 at.graph at.reached;
-      few = λ m at. few_after job m c.args.t c.requires.most.0 at.graph at.reached at.few;
-      answered = λ m at.
-          c.turns_up_to.ensures.answered c.args.most (most_in c.args.self.now c.args.t) job m c.args.t
-          c.requires.most.0 at.graph
-          (may.sends (live-is job m c.args.t (live_next job m c.args.t (next_by c.args.step)
-          (c.requires.step s m may at)
-          (makes_one c.args.step lives))).there)
-          at.reached;
-    }
+    came_next c.args.job.now c.args.self.now c.args.t c.args.sized.step c.args.awaits.now s lives may
+    c.requires.most.0 c.requires.most.1 (λ m at. c.requires.step s m may at)
 
 -- what a live task does next, where the step is this one
-next_is : (c : After-turns_up_to) (it : Step) → c.args.step ≡ it → it ≢ step.NotLive
+next_is : (c : After-turns_up_to) (it : Step) → c.args.sized.step ≡ it → it ≢ step.NotLive
     → (s : List (List ℤ)) → MayHaveCome c.args.job.now c.args.self.now c.args.t c.args.awaits.now s
-    → IsNextIn c.args.most (with_samples s c.args.job.now) c.args.self.now c.args.t (next_by it)
+    → IsNextIn c.args.sized.most (with_samples s c.args.job.now) c.args.self.now c.args.t (next_by it)
 next_is c it is lives s may =
-    subst (IsNextIn c.args.most (with_samples s c.args.job.now) c.args.self.now c.args.t)
+    subst (IsNextIn c.args.sized.most (with_samples s c.args.job.now) c.args.self.now c.args.t)
     (ap next_by is) (next_in c (λ e. lives (sym is ∙ e)) s may)
 
 -- and it may do so
-may_do : (c : After-turns_up_to) (it : Step) → c.args.step ≡ it → it ≢ step.NotLive
+may_do : (c : After-turns_up_to) (it : Step) → c.args.sized.step ≡ it → it ≢ step.NotLive
     → MayDo c.args.job.now c.args.self.now c.args.t (next_by it)
 may_do c it is lives =
     let came = c.requires.came in
-    (came.0, c.args.most, next_is c it is lives came.0 came.1)
+    (came.0, c.args.sized.most, next_is c it is lives came.0 came.1)
 
 pub returns-in-NotLive-clause-made : goal.returns-in-NotLive-clause-made
 returns-in-NotLive-clause-made c = λ s may.
@@ -102,7 +82,7 @@ pub returns-in-Register-clause-made : goal.returns-in-Register-clause-made
 returns-in-Register-clause-made c =
     let here = (goal.at.returns-in-Register-clause-made c).After-turns_up_to in
     if_ok c.register_child.result
-    (λ made had s may. had s c.args.most
+    (λ made had s may. had s c.args.sized.most
     (next_is here (step.Register c.in-Register.child) c.in-Register.is (λ e. (cc e)) s may))
     c.register_child.ensures.made
 
@@ -117,7 +97,7 @@ returns-in-Register-clause-memory c =
 
 pub returns-in-Leave-clause-made : goal.returns-in-Leave-clause-made
 returns-in-Leave-clause-made c = λ s may.
-    c.leave.ensures s c.args.most
+    c.leave.ensures s c.args.sized.most
     (next_is (goal.at.returns-in-Leave-clause-made c).After-turns_up_to step.Leave c.in-Leave.is
     (λ e. (cc e)) s may)
 
@@ -129,7 +109,7 @@ returns-in-Sample-clause-made c = λ s may.
 
 pub returns-in-Signal-clause-made : goal.returns-in-Signal-clause-made
 returns-in-Signal-clause-made c = λ s may.
-    c.signal_owed.ensures.made s c.args.most
+    c.signal_owed.ensures.made s c.args.sized.most
     (next_is (goal.at.returns-in-Signal-clause-made c).After-turns_up_to
     (step.Signal c.in-Signal.output) c.in-Signal.is (λ e. (cc e)) s may)
 
@@ -141,6 +121,6 @@ returns-in-Wait-clause-made c = λ s may.
 
 pub returns-in-Exchange-clause-made : goal.returns-in-Exchange-clause-made
 returns-in-Exchange-clause-made c = λ s may.
-    c.wait_exchange.ensures s c.args.most
+    c.wait_exchange.ensures s c.args.sized.most
     (next_is (goal.at.returns-in-Exchange-clause-made c).After-turns_up_to step.Exchange c.in-Exchange.is
     (λ e. (cc e)) s may)

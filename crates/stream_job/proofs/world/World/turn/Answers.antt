@@ -58,7 +58,7 @@ make-requires-clause-most c =
     )
 
 pub make-requires-clause-step : goal.make-requires-clause-step
-make-requires-clause-step c = λ s m may at. c.next-step.ensures s m at (may.awaits m at)
+make-requires-clause-step c = λ s m may at. c.next.ensures s m at (may.awaits m at)
 
 pub note-requires : goal.note-requires
 note-requires c =
