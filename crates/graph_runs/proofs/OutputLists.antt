@@ -44,9 +44,10 @@ ranges_begin f g a b le same =
 
 fir_begins : (taps : List ℤ) (form : Form) (xs ys : List ℤ) → IsPrefix xs ys
     → IsPrefix (outputs taps form xs) (outputs taps form ys)
-fir_begins taps form xs ys a =
-    (outputs_of_block taps form xs a.0,
-    sym (outputs-block taps form xs a.0) ∙ ap (λ l. outputs taps form l) a.1)
+fir_begins taps form xs ys a = (
+  outputs_of_block taps form xs a.0,
+  sym (outputs-block taps form xs a.0) ∙ ap (λ l. outputs taps form l) a.1,
+)
 
 every_begins : (m j : ℕ) (xs ys : List ℤ) → j < m → IsPrefix xs ys
     → IsPrefix (every m j xs) (every m j ys)

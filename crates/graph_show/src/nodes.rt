@@ -46,7 +46,7 @@ fn kind_word(kind: Kind) -> &'static str
 fn task_word(task: &TaskLine) -> &'static str
     ensures { result.now ≡ task_word (task_of task.now) }
 {
-    if is_delay(task.form) {
+    if is_delay(&task.form) {
         return "delay";
     }
     kind_word(task.kind)

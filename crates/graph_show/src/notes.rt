@@ -96,8 +96,8 @@ fn put_taps(text: &mut Vec<u8>, taps: &[i64]) -> Result<(), AllocError>
 }
 
 /// Whether a filter of this form is told as a delay.
-pub(crate) fn is_delay(form: Form) -> bool
-    ensures { result ≡ is_delay form }
+pub(crate) fn is_delay(form: &Form) -> bool
+    ensures { result ≡ is_delay form.now }
 {
     form.delay > 0
 }
@@ -114,8 +114,8 @@ fn put_plus_note(text: &mut Vec<u8>, plus: i64) -> Result<(), AllocError>
 }
 
 /// Puts the shift of a filter, what it adds, and its taps behind the text.
-fn put_taps_note(text: &mut Vec<u8>, form: Form, taps: &[i64]) -> Result<(), AllocError>
-    ensures ok { OnOk result (text.new.items ≡ text.old.items ++ taps_note form taps.now) }
+fn put_taps_note(text: &mut Vec<u8>, form: &Form, taps: &[i64]) -> Result<(), AllocError>
+    ensures ok { OnOk result (text.new.items ≡ text.old.items ++ taps_note form.now taps.now) }
 {
     let mut buffer = Buffer::new();
     put(text, ["\\nshift ", buffer.format(form.shift)].as_slice())?;
@@ -125,8 +125,8 @@ fn put_taps_note(text: &mut Vec<u8>, form: Form, taps: &[i64]) -> Result<(), All
 }
 
 /// Puts the steps of a delay, or what a filter does, behind the text.
-fn put_filter_note(text: &mut Vec<u8>, form: Form, taps: &[i64]) -> Result<(), AllocError>
-    ensures ok { OnOk result (text.new.items ≡ text.old.items ++ filter_note form taps.now) }
+fn put_filter_note(text: &mut Vec<u8>, form: &Form, taps: &[i64]) -> Result<(), AllocError>
+    ensures ok { OnOk result (text.new.items ≡ text.old.items ++ filter_note form.now taps.now) }
 {
     if !is_delay(form) {
         return put_taps_note(text, form, taps);
@@ -160,7 +160,7 @@ pub(crate) fn put_kind_notes(text: &mut Vec<u8>, graph: &Graph, t: usize) -> Res
     let task = graph.task(t);
     match task.kind {
         Kind::Source => put_file_note(text, graph, t),
-        Kind::Fir => put_filter_note(text, task.form, &task.taps),
+        Kind::Fir => put_filter_note(text, &task.form, &task.taps),
         Kind::Decimate => put_every_note(text, task.every),
         Kind::Peer => put_peer_note(text, task.mul),
         Kind::Split | Kind::Join | Kind::Sink => Ok(()),

@@ -103,8 +103,11 @@ no_single (Some single) = never
 
 abbrev pub no_taps : (taps : List ℤ) (form : Form) → Test ((taps ≡ []) × (form ≡ no_form))
 no_taps taps form =
-    giving (λ b. (b.left, form_is form b.right.left b.right.right.left b.right.right.right.left
-    b.right.right.right.right.left b.right.right.right.right.right))
+    giving (λ b. (
+      b.left,
+      form_is form b.right.left b.right.right.left b.right.right.right.left
+          b.right.right.right.right.left b.right.right.right.right.right,
+    ))
     (both (test.is_empty taps)
     (both (test.is_equal form.shift 0)
     (both (test.is_value form.plus (pos 0))
