@@ -31,13 +31,15 @@ impl<H: Threads + Sync> FilterLists for ByThreads<'_, H> {
         form: Form,
         samples: &[i64],
     ) -> Result<Vec<i64>, FilterFault> {
+        // Lent, of which each call below gets a copy.
+        let form = &form;
         let count = self.parts(samples.len(), VALUES_MIN);
         if count > 1 {
-            if let Some(values) = self.filter(taps, form, samples, count) {
+            if let Some(values) = self.filter(taps, *form, samples, count) {
                 return Ok(values);
             }
         }
-        filter_list(alloc, taps, form, samples)
+        filter_list(alloc, taps, *form, samples)
     }
 }
 
