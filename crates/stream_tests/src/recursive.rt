@@ -233,12 +233,12 @@ fn a_filter_that_weighs_what_it_put_answers_its_steps(rt: HostRuntime) -> Result
     for case in &CASES {
         let mut fir = made(Fir::with_form(rt.alloc(), case.taps, form_of(case)))?;
         for n in 0..6 {
+            let wanted = case.wanted[n];
             let found = fir.step(case.samples[n]).unwrap_or(0);
             assert!(rt;
-                found == case.wanted[n],
-                "{}: {found} at step {n}, and not {}",
-                case.name,
-                case.wanted[n]
+                found == wanted,
+                "{}: {found} at step {n}, and not {wanted}",
+                case.name
             );
         }
     }
@@ -274,7 +274,7 @@ fn a_block_goes_on_behind_the_last(rt: HostRuntime) -> Result<(), Fail> {
         let end = case.too_big.unwrap_or(6);
         assert!(rt; rest.is_ok() == case.too_big.is_none(), "{}", case.name);
         assert!(rt;
-            list.as_slice() == &case.wanted[..end],
+            Some(list.as_slice()) == case.wanted.get(..end),
             "{}: {list:?}",
             case.name
         );
@@ -293,33 +293,40 @@ fn a_long_sum(rt: HostRuntime) -> Result<(), Fail> {
         single: None,
     };
     let mut fir = made(Fir::with_form(rt.alloc(), &[1, 1], form))?;
-    let ones = [1; 1000];
-    let mut list = Vec::with_capacity(rt.alloc(), 5000)?;
-    for _ in 0..5 {
+    let ones = [1; 100];
+    let mut last = None;
+    for _ in 0..30 {
+        let mut list = Vec::with_capacity(rt.alloc(), 100)?;
         assert!(rt; fir.steps(&ones, &mut list).is_ok(), "a small sum");
+        last = list.get(99).copied();
     }
-    assert_eq!(rt; list.get(4999).copied(), Some(5000));
+    assert_eq!(rt; last, Some(3000));
     fir.take(7);
-    assert_eq!(rt; fir.step(1), Ok(5008));
+    assert_eq!(rt; fir.step(1), Ok(3008));
     Ok(())
 }
 
-/// Taps for what was put: too many, or as many as there are taps.
+/// Taps, and how many of them weigh what was put: too many, or as many as there are taps.
+static BAD_TAPS: [(&'static [i64], usize); 5] = [
+    (&[0; 66], 65),
+    (&[0; 64], 64),
+    (&[0], 1),
+    (&[0], 2),
+    (&[0; 1089], 64),
+];
+
 #[test]
 fn bad_taps_again(rt: HostRuntime) {
-    for (count, again) in [(66, 65), (64, 64), (1, 1), (1, 2), (1090, 64)] {
+    for (taps, again) in &BAD_TAPS {
         let form = Form {
             shift: 0,
             plus: 0,
             delay: 0,
-            again,
+            again: *again,
             single: None,
         };
-        let fir = Fir::with_form(rt.alloc(), &[0; 1090][..count], form);
-        assert!(rt;
-            matches!(fir, Err(FirFault::BadTaps)),
-            "{count} taps, {again} again"
-        );
+        let fir = Fir::with_form(rt.alloc(), taps, form);
+        assert!(rt; matches!(fir, Err(FirFault::BadTaps)), "{again} again");
     }
     let few = Fir::new(rt.alloc(), &[0; 65], 0);
     assert!(rt; matches!(few, Err(FirFault::BadTaps)), "65 taps by a shift");
