@@ -246,7 +246,7 @@ int32_t phase_shared_try_missing(phase_registration *registration, phase_member_
 /* Writes who is missing as a text that ends in a zero, for the words of an error, as `phase 7 lacks
  * the signal of 1, 4 and 2 more`. It names 16 at most, and the text is cut where it is longer than
  * text_len, which PHASE_LACKS_MAX never is too short for. It is empty where nobody is missing, and
- * where the call is refused. It waits for nothing.
+ * where the call is refused. It waits for its turn for a millisecond at most.
  *
  * Refused as PHASE_E_NO_PHASER, PHASE_E_BUSY. */
 int32_t phase_shared_lacks(phase_registration *registration, char *text, size_t text_len);

@@ -1151,8 +1151,9 @@ static void put_number(struct text *text, uint64_t number)
     put(text, &digits[at]);
 }
 
-/* How many of those that are missing a text names. */
-enum { NAMED = 16 };
+/* How many of those that are missing a text names, and how long it waits for its turn at most, in
+ * nanoseconds: those that are told of one close at once ask at once. */
+enum { NAMED = 16, WORDS = 1000000 };
 
 static void put_missing(struct text *text, const phase_member_counts *counts,
                         const uint64_t *numbers)
@@ -1175,9 +1176,13 @@ static void put_missing(struct text *text, const phase_member_counts *counts,
 int32_t phase_shared_lacks(phase_registration *registration, char *text, size_t text_len)
 {
     struct text written = {text, text_len - (text_len > 0)};
+    struct patience patience = within(WORDS);
     phase_member_counts counts;
     uint64_t numbers[NAMED];
-    int32_t status = phase_shared_try_missing(registration, &counts, numbers, NAMED);
+    int32_t status;
+    do
+        status = phase_shared_try_missing(registration, &counts, numbers, NAMED);
+    while (status == PHASE_E_BUSY && snooze(registration, &patience));
     if (status == PHASE_OK && counts.signallers > counts.signalled)
         put_missing(&written, &counts, numbers);
     if (text_len > 0)

@@ -53,10 +53,13 @@ fn one_never_signals() {
             let (next, wait, it) = it.join().unwrap();
             assert_eq!(next, Ok(Next::Signalled(0)));
             let refused = wait.unwrap_err();
-            assert_eq!(refused.to_string(), "the phaser is closed: phase 0 lacks the signal of 3");
+            let told = refused.to_string();
+            // Who has the turn may be off its processor for a millisecond: then nobody is named.
+            assert!(told == CLOSED || told == format!("{CLOSED}: {LACKS_THREE}"), "{told}");
             assert_eq!(PhaserError::from(refused), PhaserError::Closed);
             own.push(it);
         }
+        assert_eq!(waiter.lacks(), LACKS_THREE);
         assert_eq!(silent.take().unwrap().signal_or_closed(&[1], None, None), Ok(0));
         let got = Got::Value { phase: 0, value: Some(4) };
         assert_eq!(waiter.wait_or_closed(None), Ok(got));
@@ -249,6 +252,8 @@ fn a_limit_beside_a_close() {
     );
 }
 
+const CLOSED: &str = "the phaser is closed";
+const LACKS_THREE: &str = "phase 0 lacks the signal of 3";
 const LACKS_TWO: &str = "phase 0 lacks the signal of 0, 2";
 const LACKS_ONE: &str = "phase 0 lacks the signal of 0";
 const LACKS_NEXT: &str = "phase 1 lacks the signal of 0";

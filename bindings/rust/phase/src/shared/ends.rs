@@ -104,8 +104,8 @@ impl<M: mode::Mode> Registration<M> {
     }
 
     /// Returns who is missing in words, as `phase 7 lacks the signal of 1, 4 and 2 more`: 16 by
-    /// their numbers. It is empty where nobody is missing, or another call on the phaser is in
-    /// the middle. It waits for nothing, and takes memory.
+    /// their numbers. It is empty where nobody is missing, or another call on the phaser stays in
+    /// the middle for a millisecond, which it waits for. It takes memory.
     pub fn lacks(&self) -> String {
         let mut text = [0; PHASE_LACKS_MAX];
         // SAFETY: as in `standing_at`; the pointer and length are those of one array.
