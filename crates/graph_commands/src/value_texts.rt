@@ -13,7 +13,7 @@ use std::io::Write;
 use watched_io::{Watched, WriteFailed};
 
 /// How many values are made text at a time.
-const ROUND: usize = 1_048_576;
+const ROUND: usize = 524_288;
 
 /// Who makes the text of values: one thread, or several.
 pub trait ValueTexts {

@@ -10,6 +10,7 @@
 
 mod cli;
 mod filtering;
+mod rounds;
 mod texts;
 
 pub use cli::run_cli;

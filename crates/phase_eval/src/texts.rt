@@ -1,5 +1,5 @@
-//! Long texts, which several threads read and write, a part each.
-ghost use Rattle.std.specs.Prelude.{◌≡◌, ◌≤◌, ◌<◌, ℕ, length, take, drop, IfSome, IfOk};
+//! Long texts, of which several threads read or write a part each.
+ghost use Rattle.std.specs.Prelude.{◌≡◌, ◌≤◌, ◌<◌, ℕ, length, take, drop, IfSome, IfOk, IsTrue};
 ghost use Rattle.std.specs.List.{All, flat_map};
 ghost use denote.Param.Send.{IsSync};
 ghost use Rattle.graph_lang.specs.PlainLines.{ArePlainLines};
@@ -7,17 +7,20 @@ ghost use Rattle.graph_commands.specs.OutputTexts.{value_text};
 ghost use Rattle.graph_commands.specs.Puts.{bytes_of};
 ghost use Rattle.phase_eval.specs.Texts.{IsReadPart, IsTextPart};
 
+use crate::rounds::Round;
 use graph_commands::{ValueTexts, write_values};
 use graph_lang::{
     SampleFault, SampleTexts, parts_have_samples, plain_part, samples_of, samples_with,
 };
-use memchr::memchr;
+use memchr::{memchr, memchr_iter};
 use std::alloc::Global;
 use std::thread::{self, Threads};
 use watched_io::Watched;
 
 /// The shortest part of a text that a thread reads, in bytes.
 const BYTES_MIN: usize = 262_144;
+/// How many bytes of a text each thread reads of a round: what they made stands twice until its end.
+const BYTES_ROUND: usize = 1_048_576;
 /// The fewest values of which a thread makes the text.
 pub(crate) const VALUES_MIN: usize = 32_768;
 
@@ -27,7 +30,7 @@ pub(crate) const VALUES_MIN: usize = 32_768;
 pub struct ByThreads<'a, H: Threads> {
     pub(crate) rt: &'a H,
     pub(crate) alloc: Global,
-    threads: usize,
+    pub(crate) threads: usize,
 }
 
 /// The samples of a part of a text whose lines are plain.
@@ -61,15 +64,41 @@ impl<'a, H: Threads + Sync> ByThreads<'a, H> {
 
     /// The samples of a text whose lines are all plain, or nothing where one is not, or memory was
     /// refused.
-    fn read(&self, text: &[u8], count: usize) -> Option<Vec<i64>>
+    fn read(&self, text: &[u8]) -> Option<Vec<i64>>
         ensures { IfSome result (λ values.
             ArePlainLines text.now 0 (length text.now) values.items) }
     {
+        parts_have_samples();
+        let Ok(mut values) = Vec::with_capacity(self.alloc, lines_in(text)) else {
+            return None;
+        };
+        let size = self.threads.clamp(1, 16) * BYTES_ROUND;
+        let mut from = 0;
+        while from < text.len() {
+            let to = line_end(text, from + size.min(text.len() - from));
+            let parts = self.parts(to - from, BYTES_MIN).max(1);
+            let round = Round { from, to, parts };
+            if !self.read_round(text, round, &mut values) {
+                return None;
+            }
+            from = to;
+        }
+        Some(values)
+    }
+
+    /// Puts the samples of the lines of a round behind those before it, and answers whether all of
+    /// its lines are plain, and there was memory.
+    fn read_round(&self, text: &[u8], round: Round, values: &mut Vec<i64>) -> bool
+        requires order { round.from ≤ round.to }
+        requires within { round.to ≤ length text.now }
+        requires before { ArePlainLines text.now 0 round.from values.old.items }
+        ensures { IsTrue result → ArePlainLines text.now 0 round.to values.new.items }
+    {
         let alloc = self.alloc;
-        let read = |k: usize| read_part(alloc, text, count, k);
-        match thread::map_indices(self.rt, alloc, count, &read) {
-            Ok(parts) => joined(alloc, text, &parts),
-            Err(_) => None,
+        let read = |k: usize| read_part(alloc, text, round, k);
+        match thread::map_indices(self.rt, alloc, round.parts, &read) {
+            Ok(parts) => join(text, round, parts, values),
+            Err(_) => false,
         }
     }
 
@@ -91,9 +120,8 @@ impl<H: Threads + Sync> SampleTexts for ByThreads<'_, H> {
     ghost may_read = { λ _. IsSync H.row };
 
     fn samples(&self, alloc: Global, text: &[u8]) -> Result<Vec<i64>, SampleFault> {
-        let count = self.parts(text.len(), BYTES_MIN);
-        if count > 1 {
-            if let Some(values) = self.read(text, count) {
+        if self.parts(text.len(), BYTES_MIN) > 1 {
+            if let Some(values) = self.read(text) {
                 return samples_with(alloc, text, Some(values));
             }
         }
@@ -113,34 +141,44 @@ impl<H: Threads + Sync> ValueTexts for ByThreads<'_, H> {
     }
 }
 
-/// Where part `k` of so many begins: behind a line end, or where the text does, or at its end.
-fn cut(text: &[u8], count: usize, k: usize) -> usize
-    ensures { result ≤ length text.now }
+/// How many lines a text has at the most.
+fn lines_in(text: &[u8]) -> usize {
+    memchr_iter(b'\n', text).count().saturating_add(1)
+}
+
+/// Behind the first line end from a place on, or the end of the text.
+fn line_end(text: &[u8], at: usize) -> usize
+    requires { at ≤ length text.now }
+    ensures behind { at ≤ result }
+    ensures within { result ≤ length text.now }
 {
-    if k == 0 || count == 0 {
-        return 0;
-    }
-    if k >= count {
-        return text.len();
-    }
-    let at = text.len() / count * k;
-    if at >= text.len() {
-        return text.len();
-    }
     match memchr(b'\n', &text[at..]) {
         Some(end) => at + end + 1,
         None => text.len(),
     }
 }
 
-/// Reads part `k` of so many, whose lines are plain; or nothing where one is not, or memory was
+/// Where part `k` of a round begins: at its first place, or behind a line end, or at its end.
+fn cut(text: &[u8], round: Round, k: usize) -> usize
+    requires order { round.from ≤ round.to }
+    requires within { round.to ≤ length text.now }
+    ensures { result ≤ round.to }
+{
+    if k == 0 {
+        return round.from;
+    }
+    line_end(text, round.begin(k)).min(round.to)
+}
+
+/// Reads part `k` of a round, whose lines are plain; or nothing where one is not, or memory was
 /// refused.
-fn read_part(alloc: Global, text: &[u8], count: usize, k: usize) -> Option<ReadPart>
-    requires { k < count }
+fn read_part(alloc: Global, text: &[u8], round: Round, k: usize) -> Option<ReadPart>
+    requires order { round.from ≤ round.to }
+    requires within { round.to ≤ length text.now }
     ensures { IfSome result (IsReadPart text.now) }
 {
-    let from = cut(text, count, k);
-    let to = cut(text, count, k + 1);
+    let from = cut(text, round, k);
+    let to = cut(text, round, k.saturating_add(1));
     if from > to {
         return None;
     }
@@ -150,35 +188,26 @@ fn read_part(alloc: Global, text: &[u8], count: usize, k: usize) -> Option<ReadP
     }
 }
 
-/// How many samples the parts have that are there.
-fn samples_in(parts: &[Option<ReadPart>]) -> usize {
-    let mut count = 0usize;
-    for part in parts.iter().flatten() {
-        count = count.saturating_add(part.values.len());
-    }
-    count
-}
-
-/// The samples of parts that follow one another and are the whole text.
-fn joined(alloc: Global, text: &[u8], parts: &[Option<ReadPart>]) -> Option<Vec<i64>>
-    requires { All (λ part. IfSome part (IsReadPart text.now)) parts.now }
-    ensures { IfSome result (λ values. ArePlainLines text.now 0 (length text.now) values.items) }
+/// Puts the samples of parts behind those before, where they follow one another and are the whole
+/// round, and answers whether they do, and there was memory. Each part's memory is given back as
+/// soon as its samples stand there.
+fn join(text: &[u8], round: Round, parts: Vec<Option<ReadPart>>, values: &mut Vec<i64>) -> bool
+    requires parts { All (λ part. IfSome part (IsReadPart text.now)) parts.items }
+    requires before { ArePlainLines text.now 0 round.from values.old.items }
+    ensures { IsTrue result → ArePlainLines text.now 0 round.to values.new.items }
 {
     parts_have_samples();
-    let Ok(mut values) = Vec::with_capacity(alloc, samples_in(parts)) else {
-        return None;
-    };
-    let mut at = 0;
+    let mut at = round.from;
     for part in parts {
         let Some(part) = part else {
-            return None;
+            return false;
         };
         if part.from != at || values.extend_from_slice(&part.values).is_err() {
-            return None;
+            return false;
         }
         at = part.to;
     }
-    if at == text.len() { Some(values) } else { None }
+    at == round.to
 }
 
 /// The text of part `k` of so many, or nothing where memory was refused.

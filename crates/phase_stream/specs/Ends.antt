@@ -1,5 +1,5 @@
 -- How a run of the program may end, by what its words ask for.
-use Rattle.std.specs.Prelude.{◌≡◌, ◌⊎◌, ℕ, Bool, false, true, List, [], Option}
+use Rattle.std.specs.Prelude.{◌≡◌, ◌⊎◌, ℕ, Bool, false, true, List, Option}
 use Rattle.graph_commands.specs.FileJobs.{Known}
 use Rattle.graph_commands.specs.Folders.{known_by}
 use Rattle.watched_io.specs.States.{WriterState}
@@ -7,7 +7,6 @@ use Rattle.watched_io.specs.declared.status.Status.{Status}
 use Rattle.watched_io.specs.declared.status.Status.TheVariants.{Done, Failed, GraphRefused, Stalled, TooBig}
 use Rattle.watched_io.specs.declared.watched.Watched.{Watched}
 use Rattle.phase_stream.specs.Outputs.{StreamEndsBy}
-use Rattle.phase_stream.specs.Streams.{StreamEnds}
 use Rattle.phase_stream.specs.Tables.{TableEnds}
 use Rattle.phase_words.specs.StreamLine.{Stream}
 
@@ -17,15 +16,8 @@ MayEndAsStream status =
     (status ≡ Done) ⊎ ((status ≡ GraphRefused) ⊎ ((status ≡ TooBig) ⊎ ((status ≡ Stalled)
     ⊎ (status ≡ Failed))))
 
--- how the stream that words ask for ends, where the values of one sink go to the output alone
-abbrev pub EndsAsStream : {W : Type 0} → Stream → Known → (W → Option (List ℕ)) → Status
-    → Watched W → Watched W → WriterState → WriterState → Type 0
-EndsAsStream what known contents status old new before after = what.files ≡ []
-    → what.columns ≡ false
-    → StreamEnds what.explain (known_by what.beside what.graph known) what.graph what.sink status
-    contents old new before after
-
--- and where they go to files too, which were made, and of which it may be known what is written
+-- how the stream that words ask for ends, where the values of sinks go to the output, to files
+-- too, which were made, and of which it may be known what is written, or to both
 abbrev pub EndsAsAsked : {W V : Type 0} → Stream → Known → Bool → (W → Option (List ℕ))
     → (V → Option (List ℕ)) → Status → List (Watched V) → Watched W → Watched W → WriterState
     → WriterState → Type 0
@@ -45,6 +37,5 @@ EndsAsTable what known contents status old new before after = what.columns ≡ t
 pub record EndsAsStreamed {W V : Type 0} (what : Stream) (known : Known) (knows : Bool)
     (of_output : W → Option (List ℕ)) (of_file : V → Option (List ℕ)) (status : Status)
     (made : List (Watched V)) (old new : Watched W) (before after : WriterState) : Type 0 where
-  pub stream : EndsAsStream what known of_output status old new before after
   pub files : EndsAsAsked what known knows of_output of_file status made old new before after
   pub table : EndsAsTable what known of_output status old new before after

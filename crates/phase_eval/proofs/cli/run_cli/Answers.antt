@@ -1,4 +1,4 @@
-use Rattle.std.proofs.Common.{inl, inr, refl, sym, subst, ◌∙◌}
+use Rattle.std.proofs.Common.{inl, inr, sym, subst, ◌∙◌}
 use Rattle.phase_words.proofs.Answering.{may-end-answered, may-end-taken, refused-silent, unbegun}
 use Rattle.phase_words.specs.RunLine.{Run}
 use Rattle.watched_io.specs.States.{writer_state}

@@ -1,5 +1,5 @@
 -- One more part behind those before it.
-use Rattle.std.proofs.Common.{◌≡◌, ◌<◌, ◌++◌, ◌∷◌, ◌∙◌, ℕ, suc, List, [], All, IfSome, Option, Some, None, length, ap, subst, arith, rules}
+use Rattle.std.proofs.Common.{◌≡◌, ◌++◌, ◌∷◌, ◌∙◌, suc, [], All, IfSome, Option, None, ap, subst, arith, rules}
 use Rattle.std.specs.List.{flat_map}
 use Rattle.graph_commands.specs.Puts.{bytes_of}
 use Rattle.phase_eval.specs.Texts.{IsTextPart}

@@ -2,9 +2,7 @@ use Rattle.std.proofs.Common.{inl, inr, sym, subst, ◌∙◌}
 use Rattle.phase_words.proofs.Answering.{may-end-answered, may-end-taken, refused-silent, unbegun}
 use Rattle.phase_words.specs.StreamLine.{Stream}
 use Rattle.watched_io.specs.States.{writer_state}
-use Rattle.graph_commands.specs.Folders.{known_by}
 use Rattle.phase_stream.specs.Ends.{EndsAsAsked, EndsAsTable}
-use Rattle.phase_stream.proofs.Alone.{ends_alone}
 use Rattle.phase_stream.proofs.cli.run_cli.Goals as goal
 
 -- ---- a stream was asked for
@@ -23,9 +21,6 @@ returns-in-Ok-clause-asked g c = λ what asks.
     g.F.Writer.Write.contents c.run_call.result c.run_call.new.made.items
     c.args.streams.now.output c.run_call.new.streams.output before after) is c.run_call.ensures.ends in
     inr (record {
-      stream = λ alone sinks. ends_alone (known_by what.beside what.graph file) what g.F.Opens.knows
-          g.W.Write.contents g.F.Writer.Write.contents c.run_call.result c.args.streams.now.output
-          c.run_call.new.streams.output c.run_call.new.made.items before after (ends sinks) alone;
       files = ends;
       table = subst (λ (what : Stream). EndsAsTable what file g.W.Write.contents c.run_call.result
           c.args.streams.now.output c.run_call.new.streams.output before after) is
