@@ -1,8 +1,8 @@
 -- A sink whose parent, a sink too, has left before it came never begins.
-use Rattle.std.proofs.Common.{◌≡◌, ◌≢◌, ◌⊎◌, inl, inr, ◌<◌, ◌≤◌, ◌&&◌, ◌∙◌, ℕ, ℤ, Bool, true, false, List, [], Option, Some, None, length, get_or, min, set, slice_get, refl, sym, ap, subst, arith}
+use Rattle.std.proofs.Common.{◌≡◌, ◌≢◌, ◌⊎◌, inl, inr, ◌<◌, ◌≤◌, ◌&&◌, ◌∙◌, ℕ, ℤ, Bool, true, false, List, [], Some, None, length, set, slice_get, refl, sym, ap, subst, arith}
 use Rattle.std.proofs.lemmas.Bool.{lt-leb}
 use Rattle.std.specs.Prelude.{nat_le, if◌then◌else◌}
-use Rattle.graph_base.specs.Graphs.{Task, task_at}
+use Rattle.graph_base.specs.Graphs.{task_at}
 use Rattle.graph_base.specs.TaskLines.{IsGraph, IsTaskLine}
 use Rattle.graph_base.specs.declared.line.Parent.{Parent}
 use Rattle.graph_runs.specs.InTime.{BeginsInTime}

@@ -7,7 +7,6 @@ use Rattle.graph_commands.specs.declared.failure.Failure.TheVariants as failure
 use Rattle.watched_io.specs.Prefix.{AppendsPrefix}
 use Rattle.watched_io.specs.States.{WriterState}
 use Rattle.stream_job.specs.Streams.{ended_at, has_ended}
-use Rattle.graph_base.specs.Graphs.{Graph}
 use Rattle.graph_runs.specs.Moments.{started}
 use Rattle.stream_lists.specs.Jobs.{Job}
 use Rattle.stream_lists.specs.Lists.{sinks_of}

@@ -1,5 +1,4 @@
 mod Absent
-mod Alone
 mod Asking
 mod Begun
 mod EachColumn

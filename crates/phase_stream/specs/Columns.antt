@@ -1,5 +1,5 @@
 -- A sink as a column of a table: what of its values was written in lines, and what waits.
-use Rattle.std.specs.Prelude.{◌≡◌, ◌<◌, ◌≤◌, ◌+◌, ◌-◌, ◌++◌, ◌||◌, ℕ, ℤ, Bool, true, false, List, [], None, Some, drop, get_or, length, min, nat_lt, not, slice_get, if◌then◌else◌}
+use Rattle.std.specs.Prelude.{◌≡◌, ◌<◌, ◌≤◌, ◌+◌, ◌-◌, ◌||◌, ℕ, ℤ, Bool, true, false, List, [], None, Some, drop, get_or, length, min, nat_lt, not, slice_get, if◌then◌else◌}
 use Rattle.std.specs.declared.option.Option.{Option}
 use mathlib.Core.List.{IsPrefix}
 use Rattle.graph_commands.specs.ColumnTexts.{end_from, value_from}

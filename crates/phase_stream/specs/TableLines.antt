@@ -6,7 +6,6 @@ use Rattle.std.specs.List.{flat_map, list_all, list_any, range_with_len}
 use Rattle.watched_io.specs.Prefix.{AppendsPrefix}
 use Rattle.graph_commands.specs.ColumnTexts.{comma_before, end_from, row_text, value_cell, value_from}
 use Rattle.graph_commands.specs.FileJobs.{Known}
-use Rattle.stream_job.specs.SinkLines.{kept_by}
 use Rattle.stream_job.specs.Streams.{ended_at}
 use Rattle.graph_runs.specs.Moments.{Moment}
 use Rattle.stream_lists.specs.Jobs.{Job}

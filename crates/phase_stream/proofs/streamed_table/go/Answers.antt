@@ -1,5 +1,5 @@
 -- A turn more, and what stops it.
-use Rattle.std.proofs.Common.{◌∙◌, Err, false, true, refl, sym, ap, subst}
+use Rattle.std.proofs.Common.{◌∙◌, Err, true, refl, sym, ap, subst}
 use Rattle.graph_commands.specs.Failures.{HasPlace}
 use Rattle.graph_commands.specs.declared.failure.Failure.TheVariants as failure
 use Rattle.watched_io.specs.States.{writer_state}

@@ -1,5 +1,5 @@
 -- A line more is put, or written.
-use Rattle.std.proofs.Common.{◌++◌, ◌∙◌, true, sym, subst}
+use Rattle.std.proofs.Common.{◌++◌, ◌∙◌, sym, subst}
 use Rattle.std.proofs.KnownBytes.{Appends-trans}
 use Rattle.std.specs.Io.KnownBytes.{Appends}
 use Rattle.std.specs.List.{list_all, list_any}
@@ -7,7 +7,7 @@ use Rattle.std.proofs.lemmas.Bool.{and_parts}
 use Rattle.watched_io.specs.Prefix.{AppendsPrefix}
 use Rattle.watched_io.specs.Watched.{inner_of}
 use Rattle.phase_stream.specs.Columns.{has_value, is_known}
-use Rattle.phase_stream.specs.TableLines.{ShowsMore, has_line}
+use Rattle.phase_stream.specs.TableLines.{ShowsMore}
 use Rattle.phase_stream.proofs.EachColumn.{fewer_lines, left_passed}
 use Rattle.phase_stream.proofs.NextLines.{line_on, none_behind, part_behind, sent_on}
 use Rattle.phase_stream.proofs.table.Table.write.Goals as goal
