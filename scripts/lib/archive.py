@@ -21,6 +21,8 @@ BACKEND = "/usr/bin/python3"
 FILES = {
     "bindings/lib/libphase.a": "lib/libphase.a",
     "bindings/lib/libphase.so.0": "lib/libphase.so.0",
+    "bindings/lib/glibc-hwcaps/x86-64-v3/libphase.so.0":
+        "lib/glibc-hwcaps/x86-64-v3/libphase.so.0",
     "bindings/c/phase.h": "include/phase.h",
     "bindings/c/phase.hpp": "include/phase.hpp",
     "bindings/c/phase_shared.h": "include/phase_shared.h",
@@ -156,7 +158,7 @@ def lay_made(folder, epoch):
         for place in TELL_WHOSE:
             put(text, os.path.join(folder, place, name))
     program = os.path.join(folder, "bin/phase")
-    put(bytes_of(project.built("phase")), program, 0o755)
+    put(bytes_of(f'{project.built("phase")}.newer'), program, 0o755)
     subprocess.run(["strip", program], check=True)
     page = [os.path.join(TOP, "scripts/lib/man-page"), program, str(epoch)]
     put(subprocess.check_output(page), os.path.join(folder, "share/man/man1/phase.1"))
@@ -213,6 +215,7 @@ def lowest_glibc(file):
 def make_wheel(folder, work, epoch):
     """Makes the wheel, of the files of Python and libphase.so, and answers its name."""
     library = os.path.join(TOP, "bindings/lib/libphase.so.0")
+    newer = os.path.join(TOP, "bindings/lib/glibc-hwcaps/x86-64-v3/libphase.so.0")
     source = os.path.join(work, "wheel")
     for name in git("ls-files", "bindings/python").split("\n"):
         put(bytes_of(os.path.join(TOP, name)), os.path.join(source, name.split("/", 2)[2]))
@@ -221,6 +224,7 @@ def make_wheel(folder, work, epoch):
     for name, text in licences.gathered(MADE, version(), epoch).items():
         put(text, os.path.join(source, "phase", name))
     put(bytes_of(library), os.path.join(source, "phase/libphase.so"), 0o755)
+    put(bytes_of(newer), os.path.join(source, "phase/libphase-newer.so"), 0o755)
     platform = "manylinux_%d_%d_x86_64" % lowest_glibc(library)
     options = {"--build-option": [f"--plat-name={platform}"]}
     call = f"from setuptools import build_meta; build_meta.build_wheel('made', {options})"

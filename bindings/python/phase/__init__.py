@@ -480,29 +480,39 @@ class _Standing(ctypes.Structure):
     ]
 
 
-def _found():
-    """Where the library is, or is looked for last."""
-    here = os.path.dirname(os.path.abspath(__file__))
-    packed = os.path.join(here, "libphase.so")
-    made = os.path.join(here, "..", "..", "lib", "libphase.so")
-    return os.environ.get("PHASE_LIB") or (packed if os.path.exists(packed) else made)
+# What processors have for which the library is made, and newer ones, for which it is made again.
+_WANTED = {"sse4_2", "popcnt"}
+_NEWER = {"abm", "avx2", "bmi1", "bmi2", "f16c", "fma", "movbe"}
 
 
-def _is_served():
-    """Whether the processor has what the library is made for, as far as the system tells it."""
+def _flags():
+    """What the processor has, as far as the system tells it."""
     try:
         with open("/proc/cpuinfo", encoding="utf-8", errors="replace") as told:
             flags = next((line for line in told if line.startswith("flags")), None)
     except OSError:
-        return True
-    return flags is None or {"sse4_2", "popcnt"} <= set(flags.split())
+        return None
+    return flags and set(flags.split())
+
+
+def _found(flags):
+    """Where the library is, or is looked for last."""
+    here = os.path.dirname(os.path.abspath(__file__))
+    made = os.path.join(here, "..", "..", "lib")
+    packed, newer = os.path.join(here, "libphase.so"), os.path.join(here, "libphase-newer.so")
+    if not os.path.exists(packed):
+        packed = os.path.join(made, "libphase.so")
+        newer = os.path.join(made, "glibc-hwcaps", "x86-64-v3", "libphase.so.0")
+    is_newer = flags is not None and flags >= _NEWER and os.path.exists(newer)
+    return os.environ.get("PHASE_LIB") or (newer if is_newer else packed)
 
 
 def _load():
-    name = _found()
+    flags = _flags()
+    name = _found(flags)
     if not os.path.exists(name):
         raise ImportError(f"there is no {name}: make it by scripts/bind, or name it in PHASE_LIB")
-    if not _is_served():
+    if flags is not None and not flags >= _WANTED:
         raise ImportError("this processor is older than x86-64-v2, for which libphase is made")
     lib = ctypes.CDLL(name)
     lib.phase_version.argtypes, lib.phase_version.restype = [], ctypes.c_uint32
