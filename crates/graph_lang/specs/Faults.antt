@@ -55,8 +55,8 @@ is_plus_within plus = nat_le (unsigned_abs (plus_of plus)) PLUS_MAX
 abbrev pub most_taps : Version → ℕ
 most_taps version = if has_third version then TAPS_MAX else FEW_TAPS_MAX
 
--- whether what a filter does beside weighing is within its limits, and how many taps it has for what
--- it put
+-- whether what a filter does beside weighing samples is within its limits, and how many taps it has
+-- for what it put
 abbrev pub is_form_within : FilterWords → Bool
 is_form_within filter =
     nat_le (nat_value filter.shift) SHIFT_MAX && is_plus_within filter.plus
@@ -102,7 +102,8 @@ abbrev pub is_past_limit : Version → Graph → Decl → Bool
 is_past_limit version before (phaser name operation bound single) =
     not (is_phaser_within bound single && nat_lt (length before.phasers) PHASERS_MAX)
 is_past_limit version before (task name body ends) =
-    not (is_body_within version body && are_ends_within ends && nat_lt (length before.tasks) TASKS_MAX)
+    not (is_body_within version body && are_ends_within ends
+    && nat_lt (length before.tasks) TASKS_MAX)
 
 -- ---- names
 

@@ -72,8 +72,8 @@ outputs_of (join inputs output) = output ∷ []
 outputs_of (peer input exchange output factor) = output ∷ []
 outputs_of (sink input) = []
 
--- the taps of a filter, of which the last ones weigh what it put; of a delay the one that copies, and
--- none of another task
+-- the taps of a filter, of which the last ones weigh what it put; of a delay the one that copies,
+-- and none of another task
 abbrev pub taps_of : BodyWords → List ℤ
 taps_of (fir input output filter) = map int_value (filter.taps ++ filter.again)
 taps_of (delay input output steps) = pos 1 ∷ []

@@ -173,7 +173,7 @@ may_have_parent (sink input) = true
 abbrev pub AreSome : (Word → Bool) → List Word → Type 0
 AreSome test words = (1 ≤ length words) × IsTrue (list_all test words)
 
--- where there are taps for what a filter put, they are numbers, and the line is of the third version
+-- where there are taps for what a filter put, they are numbers, on a line of the third version
 abbrev pub AreAgain : Version → List Word → Type 0
 AreAgain version [] = Unit {0}
 AreAgain version (tap ∷ taps) =
