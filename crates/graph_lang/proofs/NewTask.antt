@@ -18,7 +18,7 @@ use Rattle.stream_filters.specs.declared.fir.TheConstants.{AGAIN_MAX, DELAY_MAX,
 use Rattle.stream_filters.specs.Filter.{AreTaps}
 use Rattle.graph_base.specs.Graphs.{Graph, Task, Named, IsPlace, task_at, phaser_at}
 use Rattle.graph_base.specs.Names.{place_of, phaser_number, task_number, phaser_named, task_named}
-use Rattle.graph_lang.specs.WordValues.{or_zero, phaser_numbers, parent_of, task_line, kind_of_body, inputs_of, outputs_of, taps_of, plus_of, age_of, form_of, filter_form, factor_of, every_of, block_of, joins_now}
+use Rattle.graph_lang.specs.WordValues.{or_zero, phaser_numbers, parent_of, task_line, kind_of_body, inputs_of, outputs_of, taps_of, plus_of, age_of, form_in, filter_form, factor_of, every_of, block_of, joins_now}
 use Rattle.graph_lang.specs.Faults.{kind_of, is_body_within, are_ends_within, is_count_within, is_tap_within, is_plus_within, is_function_within, most_taps, is_form_within, is_filter_within, phasers_of, are_distinct, is_phaser, is_parent_known, is_in_order, is_exchange_below, may_be_parent, is_number_in, holds_for, is_plain, is_held, is_bound_within, is_within_bound, is_block_within}
 use Rattle.graph_base.specs.TaskLines.{IsGraph, IsTaskLine, IsParent, AreNames, HasEnds, HasTaps, HasFactor, HasEvery, IsExchangeBelow, has_children, has_blocks, AreAmong}
 use Rattle.phase_base.specs.Lists.{is_distinct}
@@ -266,7 +266,7 @@ small-taps words e =
 
 filter-taps : (version : Version) (filter : FilterWords) → IsFilter Three filter
     → is_filter_within version filter ≡ true
-    → AreTaps (map int_value (filter.taps ++ filter.again)) (form_of filter)
+    → AreTaps (map int_value (filter.taps ++ filter.again)) (form_in filter)
 filter-taps version filter is e =
     let few = nat_le (length filter.taps) (most_taps version) in
     let small = list_all is_tap_within filter.taps in

@@ -90,8 +90,8 @@ age_of None = 0
 age_of (Some steps) = nat_value steps
 
 -- the form that the words of a filter write
-abbrev pub form_of : FilterWords → Form
-form_of filter = record {
+abbrev pub form_in : FilterWords → Form
+form_in filter = record {
   shift = nat_value filter.shift;
   plus = plus_of filter.plus;
   delay = age_of filter.delay;
@@ -101,7 +101,7 @@ form_of filter = record {
 
 -- the form of a filter or a delay, and none of another task
 abbrev pub filter_form : BodyWords → Form
-filter_form (fir input output filter) = form_of filter
+filter_form (fir input output filter) = form_in filter
 filter_form (delay input output steps) = record no_form { delay = nat_value steps }
 filter_form body = no_form
 

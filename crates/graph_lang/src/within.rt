@@ -10,7 +10,7 @@ ghost use Rattle.graph_text.specs.declared.version.Version.TheVariants.{Three};
 ghost use Rattle.stream_filters.specs.Filter.{no_form};
 ghost use Rattle.stream_filters.specs.declared.fir.TheConstants.{DELAY_MAX};
 ghost use Rattle.graph_text.specs.Lines.{single_of as function_words, function_of, filter_of, body_of, ends_of, by_of, word_of};
-ghost use Rattle.graph_lang.specs.WordValues.{single_of, phaser_line, taps_of, plus_of, age_of, form_of, filter_form, factor_of, block_of};
+ghost use Rattle.graph_lang.specs.WordValues.{single_of, phaser_line, taps_of, plus_of, age_of, form_in, filter_form, factor_of, block_of};
 ghost use Rattle.graph_lang.specs.Reading.{AreNumbersOf, steps_in};
 ghost use Rattle.graph_lang.specs.Faults.{is_function_within, is_bound_within, is_body_within, is_tap_within, is_plus_within, most_taps, is_form_within, is_filter_within, is_number_of_ends, is_count_within, are_ends_within, is_phaser_within};
 
@@ -168,10 +168,10 @@ fn age_of(word: Option<&[u8]>) -> Option<usize>
 
 /// The form that a filter's words write, where each number, and how many taps it has for what it
 /// put, is within its limit.
-fn form_of(words: Filter<'_, '_>) -> Option<Form>
+fn form_in(words: Filter<'_, '_>) -> Option<Form>
     requires { IsFilter Three (filter_of words) }
     ensures { result ≡ (if is_form_within (filter_of words.entry)
-        then Some (form_of (filter_of words.entry)) else None) }
+        then Some (form_in (filter_of words.entry)) else None) }
 {
     let shift = shift_of(words.shift)?;
     let plus = plus_of(words.plus)?;
@@ -247,10 +247,10 @@ fn filter_numbers(
     ensures numbers { IfOk result (λ found. IfSome found (λ numbers.
         (numbers.taps.items
         ≡ map int_value (plain words.entry.taps.now ++ plain words.entry.again.now))
-        × (numbers.form ≡ form_of (filter_of words.entry))
+        × (numbers.form ≡ form_in (filter_of words.entry))
         × (numbers.factor ≡ pos 0) × (numbers.every ≡ 1))) }
 {
-    let Some(form) = form_of(words) else {
+    let Some(form) = form_in(words) else {
         return Ok(None);
     };
     if words.taps.len() > most_taps(version) {

@@ -4,9 +4,10 @@ use Rattle.std.specs.Fmt.{signed_decimal}
 use Rattle.phase_accum.specs.declared.single.Single.TheVariants.{Abs}
 use Rattle.stream_filters.specs.Filter.{no_form}
 use Rattle.stream_filters.specs.declared.form.Form.{Form}
+use Rattle.graph_lang.specs.declared.fault.FaultKind.TheVariants.{Syntax}
 use Rattle.graph_text.specs.declared.version.Version.TheVariants.{One, Two, Three}
 use Rattle.graph_show.specs.Drawings.{is_delay, filter_note}
-use Rattle.graph_show.specs.Forms.{form_of}
+use Rattle.graph_show.specs.Forms.{form_told}
 
 -- ---- filters
 
@@ -40,12 +41,20 @@ rectified = refl
 -- ---- forms
 
 -- what only later texts have stands in the forms of no earlier one
-delay_in_two : form_of Two (codes "delay") ≡ []
+delay_in_two : form_told Two Syntax (codes "delay d X") ≡ []
 delay_in_two = refl
 
-delay_in_three : form_of Three (codes "delay")
-    ≡ codes "delay NAME X -> Y of D [by P at N] [until M] [block=B]"
+delay_in_three : form_told Three Syntax (codes "delay d X")
+    ≡ codes "  form: delay NAME X -> Y of D [by P at N] [until M] [block=B]\n"
 delay_in_three = refl
 
-sink_in_one : form_of One (codes "sink") ≡ codes "sink NAME X [by P at N] [until M]"
+filter_in_one : form_told One Syntax (codes "fir f X")
+    ≡ codes "  form: fir NAME X -> Y shift S taps T1 T2 .. [by P at N] [until M]\n"
+filter_in_one = refl
+
+sink_in_one : form_told One Syntax (codes "sink") ≡ codes "  form: sink NAME X [by P at N] [until M]\n"
 sink_in_one = refl
+
+sink_in_two : form_told Two Syntax (codes "sink")
+    ≡ codes "  form: sink NAME X [by P at N [now]] [until M] [block=B]\n"
+sink_in_two = refl

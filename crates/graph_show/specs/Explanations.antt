@@ -32,8 +32,8 @@ pub record Marks (line more : List ℕ) : Type 0 where
   pub inside : start ≤ length line
   pub is : more ≡ marked_text line start count wanted
 
--- it does, and where the fault of this kind is one of the grammar, the form of such a line in a text
--- of this version stands behind that
+-- it does, and where the fault of this kind is one of the grammar, the form of such a line in a
+-- text of this version stands behind that
 pub record ExplainsKind (version : Version) (kind : FaultKind) (line more : List ℕ) : Type 0 where
   pub front : List ℕ
   pub marks : Marks line front

@@ -165,8 +165,8 @@ fn line_marked<'a>(
     marked(alloc, line, start_of(line, mark.word), count, &wanted)
 }
 
-/// Explains a fault of a line, as `line_marked` marks it, and tells the form of such a line in a text
-/// of this version where that one is not in the grammar.
+/// Explains a fault of a line, as `line_marked` marks it, and tells the form of such a line in a
+/// text of this version where that one is not in the grammar.
 fn line_explained<'a>(
     alloc: Global,
     above: &[&'a [u8]],

@@ -7,7 +7,7 @@ use Rattle.stream_filters.specs.declared.fir.TheConstants.{AGAIN_MAX, DELAY_MAX,
 use Rattle.graph_text.specs.Lines.{filter_of}
 use Rattle.graph_lang.specs.WordValues.{age_of, plus_of, single_of}
 use Rattle.graph_lang.specs.Faults.{is_function_within, is_plus_within}
-use Rattle.graph_lang.proofs.within.form_of.Goals as goal
+use Rattle.graph_lang.proofs.within.form_in.Goals as goal
 
 -- each number was read, and there are few enough taps for what was put
 pub returns : goal.returns
