@@ -75,13 +75,16 @@ DRAWN = [
         ['"Y\\nsum 65536\\nneg"', '"Z\\nany 4"', '"f\\nfir\\nshift 2\\ntaps 1 -2 1"', '"X" -> "f";', '"f" -> "Z";'],
     ),
     (
-        "a filter that adds, a delay and one of 0 steps",
+        "filters that add, remember and saturate, a delay and one of 0 steps",
         (
             "graph 3\nphaser X sum 4\nphaser Y sum 4\nsource s s.csv -> X\n"
             "fir f X -> Y shift 2 plus -3 taps 1 2\ndelay d X -> Y of 65536 until 7 block=3\n"
-            "delay e X -> Y of 0 by d at 2\nsink out Y"
+            "delay e X -> Y of 0 by d at 2\nfir g X -> Y of 5 shift 0 taps 1\n"
+            "fir r X -> Y of 5 shift 1 plus 1 taps 2 -1 again 0 3 single clamp -7 9\nsink out Y"
         ),
         [
+            '"g\\ndelay\\nof 5"',
+            '"r\\nfir\\nof 5\\nshift 1\\nplus 1\\ntaps 2 -1\\nagain 0 3\\nclamp -7 9"',
             '"f\\nfir\\nshift 2\\nplus -3\\ntaps 1 2"', '"d\\ndelay\\nof 65536\\nuntil 7\\nblock 3"',
             '"e\\nfir\\nshift 0\\ntaps 1"', '"d" -> "e" [style=dashed, label="at 2"];',
         ],
@@ -139,6 +142,7 @@ CUTS = [
         "phaser Z sum 4|",
         "source s s.csv -> X|",
         "fir f X -> Z shift 1 plus -23 taps 1| -2|3| until 1|",
+        "fir g X -> Z of 12 shift 1 taps 1| again 1|2| -3| single neg| by f at 1|",
         "delay d X -> Z of 1|2| until 1|0| block=4|",
         "delay e X -> Z of 1|2| by d at 1|2| block=4|",
     ],
@@ -175,18 +179,38 @@ def of_samples(wanted):
 
 # ---- faults of graphs, explained
 
-# The form of the lines that begin with a word, as FORMATS has it with all their ends.
+# What stands behind lines of text 1, and behind those of texts 2 and 3, by their first words.
+ENDS = {
+    "source": (" [by P at N] [until M]", " [by P at N] [until M] [block=B]"),
+    "fir": (" [by P at N] [until M]", " [by P at N] [until M] [block=B]"),
+    "sink": (" [by P at N] [until M]", " [by P at N [now]] [until M] [block=B]"),
+    "phaser": (" [single FN]", " [single FN]"),
+}
+# The forms of lines without what stands behind all, as FORMATS has them.
 FORMS = {
-    "phaser": "phaser NAME OP BOUND [single FN]",
-    "source": "source NAME FILE -> Y [by P at N] [until M] [block=B]",
-    "fir": "fir NAME X -> Y shift S [plus C] taps T1 T2 .. [by P at N] [until M] [block=B]",
-    "delay": "delay NAME X -> Y of D [by P at N] [until M] [block=B]",
-    "decimate": "decimate NAME X -> Y every V [until M]",
+    "phaser": "phaser NAME OP BOUND",
+    "source": "source NAME FILE -> Y",
+    "fir": "fir NAME X -> Y shift S taps T1 T2 ..",
     "split": "split NAME X -> Y0 Y1 .. [until M]",
     "join": "join NAME X0 X1 .. -> Y [until M]",
     "peer": "peer NAME X <-> E -> Y mul A [until M]",
-    "sink": "sink NAME X [by P at N [now]] [until M] [block=B]",
+    "sink": "sink NAME X",
 }
+THIRD_FORMS = {
+    "fir": "fir NAME X -> Y [of D] shift S [plus C] taps T1 T2 .. [again A1 A2 ..] [single FN]",
+    "delay": "delay NAME X -> Y of D [by P at N] [until M] [block=B]",
+    "decimate": "decimate NAME X -> Y every V [until M]",
+}
+
+
+def form_of(graph, line):
+    """The form of a line of this graph, or nothing where none begins so."""
+    lines = [words for it in graph.split("\n") if (words := it.split()) and words[0][0] != "#"]
+    headed = lines[:1] in ([["graph", "2"]], [["graph", "3"]])
+    version = int(lines[0][1]) if headed else 1
+    word, forms = (line.split() or [""])[0], FORMS if version < 3 else {**FORMS, **THIRD_FORMS}
+    return word in forms and forms[word] + ENDS.get(word, ("", ""))[version > 1]
+
 
 # What stands in the place of a file that is refused.
 FOLDER, LOOP, NOT_READ = object(), object(), object()
@@ -612,7 +636,7 @@ def all_runs():
             files = {"g": graph, "a.csv": "1\n"}
             told = f"phase: graph line {fault}\n"
             marked = f"{told}  {line}\n  {under}\n  expected: {expected}\n"
-            if fault.endswith(": syntax") and (form := FORMS.get(line.split()[0] if line.split() else "")):
+            if fault.endswith(": syntax") and (form := form_of(graph, line)):
                 marked += f"  form: {form}\n"
             yield Run(f"{name}: {fault}", "check g", files, None, 1, "", told)
             yield Run(f"{name}: {fault}, explained", "check g --explain", files, None, 1, "", marked)

@@ -68,11 +68,34 @@ class Maker:
         return f" block={self.random.randint(1, min(self.bounds[p] for p in phasers))}"
 
     def taps(self):
-        taps = [self.random.randint(-3, 3) for _ in range(self.random.randint(1, 4))]
-        shift, plus = self.random.choice([0, 0, 1, 2]), ""
-        if self.version == 3 and self.random.random() < 0.5:
-            plus = f" plus {self.random.choice([1, 2, -3, 1 << shift >> 1])}"
-        return f"shift {shift}{plus} taps {' '.join(map(str, taps))}"
+        """What a filter does: in a text 3 half of them do more than weigh."""
+        roll, more = self.random, self.version == 3 and self.random.random() < 0.5
+        taps = [roll.randint(-3, 3) for _ in range(roll.randint(1, 4))]
+        shift, age, plus, again, single = roll.choice([0, 0, 1, 2]), "", "", "", ""
+        if more and roll.random() < 0.3:
+            age = f"of {roll.choice([0, 1, 2, 7, 64])} "
+        if more and roll.random() < 0.05:
+            taps = [roll.randint(-3, 3) for _ in range(roll.choice([65, 100, 1024]))]
+        if more and roll.random() < 0.5:
+            plus = f" plus {roll.choice([1, 2, -3, 1 << shift >> 1])}"
+        if more and roll.random() < 0.5:
+            again = f" again {' '.join(map(str, self.again(shift)))}"
+        if more and roll.random() < 0.4:
+            low = roll.randint(-20, 5)
+            singles = ["neg", "abs", "halve", f"clamp {low} {low + roll.randint(0, 25)}"]
+            single = f" single {roll.choice(singles)}"
+        return f"{age}shift {shift}{plus} taps {' '.join(map(str, taps))}{again}{single}"
+
+    def again(self, shift):
+        """Taps for what a filter put: by half of them it forgets, by the others it may grow."""
+        roll = self.random
+        if roll.random() < 0.5:
+            most, again = (1 << shift) - 1, []
+            for _ in range(roll.randint(1, 3)):
+                again.append(roll.randint(-most, most))
+                most -= abs(again[-1])
+            return again
+        return [roll.randint(-3, 3) for _ in range(roll.choice([1, 1, 2, 3, 64]))]
 
     def file(self):
         name = f"s{len(self.files)}.csv"

@@ -19,6 +19,19 @@ ENDED = "ended"
 HUNGRY = ("hungry", None)
 
 
+def applied(single, value):
+    """A value with a single applied, where there is one, by its words."""
+    if single is None:
+        return value
+    if single[0] == "neg":
+        return -value
+    if single[0] == "abs":
+        return abs(value)
+    if single[0] == "halve":
+        return value // 2
+    return max(int(single[1]), min(int(single[2]), value))
+
+
 class Phaser:
     def __init__(self, operation, bound, single):
         self.operation, self.bound, self.single = OPERATIONS[operation], bound, single
@@ -42,18 +55,8 @@ class Phaser:
         if phase >= done:
             return None if self.signalled else ENDED
         self.waited[task] = phase + 1
-        return self.applied(self.operation(self.sends[phase]))
+        return applied(self.single, self.operation(self.sends[phase]))
 
-    def applied(self, value):
-        if self.single is None:
-            return value
-        if self.single[0] == "neg":
-            return -value
-        if self.single[0] == "abs":
-            return abs(value)
-        if self.single[0] == "halve":
-            return value // 2
-        return max(int(self.single[1]), min(int(self.single[2]), value))
 
 
 class Task:
@@ -77,14 +80,9 @@ class Task:
         if "mul" in rest:
             self.mul = int(rest[rest.index("mul") + 1])
         self.shift, self.plus, self.delay, self.taps, self.every = 0, 0, 0, [1], 1
-        # In the place of the name of a phaser or a task it is one.
-        adds = rest.index("shift") + 2 if "shift" in rest else len(rest)
-        if rest[adds : adds + 1] == ["plus"]:
-            self.plus = int(rest[adds + 1])
-            del rest[adds : adds + 2]
-        if "shift" in rest:
-            self.shift = int(rest[rest.index("shift") + 1])
-            self.taps = [int(tap) for tap in rest[rest.index("taps") + 1 :]]
+        self.again, self.single = [], None
+        if self.kind == "fir":
+            rest = self.read_filter(rest)
         if self.kind == "delay":
             self.delay = int(rest[-1])
         if self.kind == "decimate":
@@ -96,7 +94,26 @@ class Task:
         if self.kind in ("fir", "delay", "decimate", "peer"):
             outputs = 1
         self.inputs, self.outputs = ends[:inputs], ends[inputs : inputs + outputs]
-        self.steps, self.values, self.window = 0, [], []
+        self.steps, self.values, self.window, self.puts = 0, [], [], []
+
+    def read_filter(self, rest):
+        """Reads what a filter does, and gives the words before that."""
+        # A phaser may have the name of one of these words.
+        ends, words = rest[:3], rest[3:]
+        at = {word: words.index(word) for word in ("shift", "taps")}
+        if words[0] == "of":
+            self.delay = int(words[1])
+        self.shift = int(words[at["shift"] + 1])
+        if words[at["shift"] + 2] == "plus":
+            self.plus = int(words[at["shift"] + 3])
+        taps = words[at["taps"] + 1 :]
+        if "single" in taps:
+            taps, self.single = taps[: taps.index("single")], taps[taps.index("single") + 1 :]
+        if "again" in taps:
+            taps, again = taps[: taps.index("again")], taps[taps.index("again") + 1 :]
+            self.again = [int(tap) for tap in again]
+        self.taps = [int(tap) for tap in taps]
+        return ends
 
     def registrations(self):
         waits, signals = list(self.inputs), list(self.outputs)
@@ -173,7 +190,9 @@ class Task:
             total = sum(
                 tap * self.window[at - back] for back, tap in enumerate(self.taps) if at >= back
             )
-            value = (total + self.plus) >> self.shift
+            total += sum(tap * put for tap, put in zip(self.again, reversed(self.puts)))
+            value = applied(self.single, (total + self.plus) >> self.shift)
+            self.puts.append(value)
         if self.kind == "peer":
             exchange = phasers[self.inputs[1]]
             yield from self.put(exchange, value)

@@ -106,6 +106,7 @@ def ways_of_values(bound):
             files,
             [(taps[0] * x + taps[1] * y + plus) // 2 ** shift for x, y in zip(a, [0] + a)], None,
         )
+    yield from remembering(bound)
     # What is added leaves the range by itself, and comes back into it before it is shifted.
     for step in 0, 1, 15, 16, 64:
         big = {"a.csv": numbers(step, 1) + f"{2 ** 62}\n" + numbers(40, 1)}
@@ -132,6 +133,61 @@ def ways_of_values(bound):
             {"a.csv": numbers(step, 1) + f"{MOST}\n" + numbers(40, 1), "b.csv": numbers(200, 1)},
             [2 * x for x in a[:step]], (3, f"phase: too big at X {step}\n"),
         )
+
+
+def remembering(bound):
+    """Filters that weigh what they put, and filters that apply a single, as `ways_of_values` has
+    them."""
+    a, sums = list(range(1, 201)), [n * (n + 1) // 2 for n in range(1, 201)]
+    edge = [30000] * 3 + [-30000] * 4 + [100]
+    rows = (
+        ("a running sum", "shift 0 taps 1 again 1", a, sums),
+        ("one that leaves", "shift 0 taps 1 again 1 until 90", a, sums[:90]),
+        ("a sum of every other value", "shift 0 taps 1 again 0 1", a,
+         [(n // 2 + 1) * (n // 2 + 1 + n % 2) for n in range(200)]),
+        ("what was put 64 steps before", f"shift 0 taps 1{63 * ' 0'} again{63 * ' 0'} 1", a,
+         [sum(a[n::-64]) for n in range(200)]),
+        ("nothing of what was put", "shift 0 taps 2 1 again 0", a,
+         [2 * x + y for x, y in zip(a, [0] + a)]),
+        ("a filter that rests beside 0", "shift 1 taps 1 again 1", [-8, 0, 0, 0, 0],
+         [-4, -2, -1, -1, -1]),
+        ("one that rounds to the nearest", "shift 1 plus 1 taps 1 again 1", [-8, 0, 0, 0, 7, 0],
+         [-4, -2, -1, 0, 4, 2]),
+        ("a difference of a sum", "shift 0 taps 1 -1 again 1", a, a),
+        ("a sum that saturates", "shift 0 taps 1 again 1 single clamp -32768 32767", edge,
+         [30000, 32767, 32767, 2767, -27233, -32768, -32768, -32668]),
+        ("what is put is negated", "shift 0 taps 1 again 1 single neg", [1, 2, 3, 4, 5],
+         [-1, -1, -2, -2, -3]),
+        ("a clamp before the range is looked at", "shift 0 taps 3 single clamp -32768 32767",
+         [MOST, -MOST, 5], [32767, -32768, 15]),
+        ("half of what is out of range", "shift 0 taps 2 single halve", [2 ** 62, -MOST, -3],
+         [2 ** 62, -MOST, -3]),
+        ("half, rounded down", "shift 0 taps 1 single halve", [7, -7, 1, -1], [3, -4, 0, -1]),
+        ("a rectifier", "shift 0 taps -1 single abs", [MOST, -MOST, 0, 5], [MOST, MOST, 0, 5]),
+        ("a threshold", "shift 0 plus -9 taps 1 single clamp 0 1", [8, 9, 10, 11], [0, 0, 1, 1]),
+        ("samples of some steps before", "of 3 shift 0 taps 1 2", a,
+         [x + 2 * y for x, y in zip([0] * 3 + a, [0] * 4 + a)][:200]),
+        ("what was put beside such samples", "of 3 shift 0 taps 1 again 1", a, ([0] * 3 + sums)[:200]),
+        ("65 taps", f"shift 0 taps{65 * ' 1'}", a, [sum(a[max(0, n - 64) : n + 1]) for n in range(200)]),
+        ("1,024 taps", f"shift 0 taps{1024 * ' 1'}", a, sums),
+    )
+    begin = (
+        f"graph 3\nphaser X sum {bound}\nphaser Y sum {bound}\nsource A a.csv -> X\nfir f X -> Y "
+    )
+    for name, does, samples, values in rows:
+        files = {"a.csv": "".join(f"{x}\n" for x in samples)}
+        yield name, f"{begin}{does}\nsink out Y\n", files, values, None
+    yield (
+        "a running sum joins, and begins with nothing",
+        f"{begin}shift 0 taps 1 again 1\nfir g X -> Y shift 0 taps 1 again 1 by f at 100\nsink out Y\n",
+        {"a.csv": numbers(200, 1)},
+        # The samples before the child's first come to 5,050.
+        [x + y for x, y in zip(sums, [0] * 100 + [x - 5050 for x in sums[100:]])], None,
+    )
+    yield (
+        "one that grows is out of range at its step", f"{begin}shift 0 taps 1 again 2\nsink out Y\n",
+        {"a.csv": "1\n" + 80 * "0\n"}, [2 ** n for n in range(63)], (3, "phase: too big at f 63\n"),
+    )
 
 
 def banks():
@@ -346,6 +402,9 @@ def long_texts():
         bad = lines[:at] + ["1x"] + lines[at + 1 :]
         told = f"phase: samples of s: record {at + 1}\n"
         yield f"a long text with a bad record in quarter {quarter + 1}", "\n".join(bad), 1, "", told
+    rounds = [n * 7919 % 20_000_003 - 10_000_001 for n in range(600_000)]
+    text = "".join(f"{value}\n" for value in rounds)
+    yield "a text that two threads read in three rounds", text, 0, f"o 600000\n{text}", ""
     yield "a long text of one line", 1_500_000 * "1", 1, "", "phase: samples of s: record 1\n"
     yield "a long text of empty lines", 1_500_000 * "\n", 0, "o 0\n", ""
 
@@ -363,7 +422,12 @@ def long_filters():
         )
         whole = f"o {count}\n" + "".join(f"{value}\n" for value in outputs)
         yield f"a long filter of {len(taps)} taps", files_of(graph, values), 0, whole, ""
-    graph = "phaser X sum 1024\nphaser Y sum 1024\nsource s s.csv -> X\nfir f X -> Y shift 0 taps 2\nsink o Y\n"
+    values = [n * 7919 % 2003 - 1001 for n in range(600_000)]
+    graph = "phaser X sum 1024\nphaser Y sum 1024\nsource s s.csv -> X\nfir f X -> Y shift 0 taps 2 1\nsink o Y\n"
+    outputs = [2 * x + y for x, y in zip(values, [0] + values)]
+    whole = "o 600000\n" + "".join(f"{value}\n" for value in outputs)
+    yield "a filter of three rounds of two threads", files_of(graph, values), 0, whole, ""
+    values, graph = values[:count], graph.replace("taps 2 1", "taps 2")
     for places in [[0], [70_000], [90_000, 70_000], [150_000], [count - 1, 40_000]]:
         large = [2**62 if n in places else value for n, value in enumerate(values)]
         told = f"phase: too big at f {min(places)}\n"

@@ -1,24 +1,25 @@
 -- The line of a task that has no fault is a line of the graph.
-use Rattle.std.proofs.Common.{ℕ, pos, suc, ◌≡◌, ◌<◌, ◌≤◌, ◌==◌, ◌&&◌, ◌||◌, not, List, [], ◌∷◌, ◌++◌, length, get_or, Bool, true, false, Option, Some, None, is_some, option_map, IfSome, IsSome, IsTrue, nat_lt, nat_le, unsigned_abs, refl, sym, ap, ◌∙◌, arith, bytes_eq, ne_eqb, eqb-true, ltb-true, leb-true, All, Contains, inl, inr, ◌⊎◌}
+use Rattle.std.proofs.Common.{ℕ, pos, suc, ◌≡◌, ◌<◌, ◌≤◌, ◌==◌, ◌&&◌, ◌||◌, not, List, [], ◌∷◌, ◌++◌, length, map, get_or, ◌+◌, Bool, true, false, Option, Some, None, is_some, option_map, IfSome, IsSome, IsTrue, nat_lt, nat_le, unsigned_abs, refl, sym, ap, ◌∙◌, arith, bytes_eq, ne_eqb, eqb-true, ltb-true, leb-true, All, Contains, inl, inr, ◌⊎◌}
 use Rattle.std.specs.List.{list_all, list_any}
 use Rattle.std.specs.Option.{option_map_or}
 use Rattle.std.proofs.lemmas.Bool.{or_parts, or_from, or_cases, not-true, not-false, and_parts}
-use Rattle.std.proofs.lemmas.List.{length-map, map-append}
-use Rattle.std.proofs.lemmas.List.Elements.{All-cons, All-nil, All-weaker, All-map}
+use Rattle.std.proofs.lemmas.List.{length-map, length-append, map-append}
+use Rattle.std.proofs.lemmas.List.Elements.{All-append, All-cons, All-nil, All-weaker, All-map}
 use Rattle.std.proofs.lemmas.List.Sums.{AllPass-from_list_all}
 use Rattle.std.proofs.lemmas.List.Folds.{list_all-append}
 use Rattle.std.proofs.lemmas.Slice.Eq.{bytes_eq-Decides}
 use Rattle.phase_base.specs.Words.{Word}
 use Rattle.phase_base.specs.declared.limits.TheConstants.{BOUND_MAX}
 use Rattle.phase_base.specs.Numbers.{is_nat, nat_value, int_value}
-use Rattle.graph_text.specs.Decls.{task, BodyWords, source, fir, delay, decimate, split, join, peer, sink, ByWords, EndWords, IsBody, IsBy, AreEnds, MayHaveBy, may_have_parent, may_join_now, may_have_blocks}
+use Rattle.graph_text.specs.Decls.{task, BodyWords, FilterWords, source, fir, delay, decimate, split, join, peer, sink, ByWords, EndWords, IsFilter, IsBody, IsBy, AreEnds, MayHaveBy, may_have_parent, may_join_now, may_have_blocks}
 use Rattle.graph_text.specs.declared.version.Version.{Version}
-use Rattle.graph_text.specs.declared.version.Version.TheVariants.{Three}
-use Rattle.stream_filters.specs.declared.fir.TheConstants.{DELAY_MAX, PLUS_MAX, FEW_TAPS_MAX, TAP_MAX, SHIFT_MAX}
+use Rattle.graph_text.specs.declared.version.Version.TheVariants.{One, Two, Three}
+use Rattle.stream_filters.specs.declared.fir.TheConstants.{AGAIN_MAX, DELAY_MAX, FEW_TAPS_MAX, PLUS_MAX, SHIFT_MAX, TAP_MAX, TAPS_MAX}
+use Rattle.stream_filters.specs.Filter.{AreTaps}
 use Rattle.graph_base.specs.Graphs.{Graph, Task, Named, IsPlace, task_at, phaser_at}
 use Rattle.graph_base.specs.Names.{place_of, phaser_number, task_number, phaser_named, task_named}
-use Rattle.graph_lang.specs.WordValues.{or_zero, phaser_numbers, parent_of, task_line, kind_of_body, inputs_of, outputs_of, taps_of, plus_of, filter_form, factor_of, every_of, block_of, joins_now}
-use Rattle.graph_lang.specs.Faults.{kind_of, is_body_within, are_ends_within, is_count_within, is_tap_within, is_plus_within, phasers_of, are_distinct, is_phaser, is_parent_known, is_in_order, is_exchange_below, may_be_parent, is_number_in, holds_for, is_plain, is_held, is_bound_within, is_within_bound, is_block_within}
+use Rattle.graph_lang.specs.WordValues.{or_zero, phaser_numbers, parent_of, task_line, kind_of_body, inputs_of, outputs_of, taps_of, plus_of, age_of, form_in, filter_form, factor_of, every_of, block_of, joins_now}
+use Rattle.graph_lang.specs.Faults.{kind_of, is_body_within, are_ends_within, is_count_within, is_tap_within, is_plus_within, is_function_within, most_taps, is_form_within, is_filter_within, phasers_of, are_distinct, is_phaser, is_parent_known, is_in_order, is_exchange_below, may_be_parent, is_number_in, holds_for, is_plain, is_held, is_bound_within, is_within_bound, is_block_within}
 use Rattle.graph_base.specs.TaskLines.{IsGraph, IsTaskLine, IsParent, AreNames, HasEnds, HasTaps, HasFactor, HasEvery, IsExchangeBelow, has_children, has_blocks, AreAmong}
 use Rattle.phase_base.specs.Lists.{is_distinct}
 use Rattle.graph_base.specs.declared.limits.TheConstants.{TASKS_MAX, ENDS_MAX, STEPS_MAX, FACTOR_MAX, EVERY_MAX}
@@ -34,9 +35,9 @@ use Rattle.graph_lang.proofs.Grown.{weaken_some}
 -- ---- a line without fault
 
 -- what each row of the table says where none of them applies
-pub record IsSound (before : Graph) (name : Word) (body : BodyWords) (ends : EndWords)
+pub record IsSound (version : Version) (before : Graph) (name : Word) (body : BodyWords) (ends : EndWords)
     : Type 0 where
-  pub within : is_body_within body ≡ true
+  pub within : is_body_within version body ≡ true
   pub at : option_map_or (λ by. is_count_within by.at) ends.by true ≡ true
   pub until : option_map_or is_count_within ends.until true ≡ true
   pub block : option_map_or is_bound_within ends.block true ≡ true
@@ -58,13 +59,13 @@ pub record IsSound (before : Graph) (name : Word) (body : BodyWords) (ends : End
   pub signals : list_all (is_within_bound before (block_of ends.block))
       (phaser_numbers before.names (outputs_of body)) ≡ true
 
-pub task-sound : (before : Graph) (name : Word) (body : BodyWords) (ends : EndWords)
-    → kind_of before (task name body ends) ≡ None → IsSound before name body ends
-task-sound before name body ends e =
+pub task-sound : (version : Version) (before : Graph) (name : Word) (body : BodyWords) (ends : EndWords)
+    → kind_of version before (task name body ends) ≡ None → IsSound version before name body ends
+task-sound version before name body ends e =
     let names = before.names in
     let line = task_line names 0 body ends in
     let limit = row-passed
-    (not (is_body_within body && are_ends_within ends && nat_lt (length before.tasks) TASKS_MAX))
+    (not (is_body_within version body && are_ends_within ends && nat_lt (length before.tasks) TASKS_MAX))
     Limit _ e in
     let twice = row-passed (is_some (place_of names name) || not (are_distinct (phasers_of body)))
     Twice _ limit.1 in
@@ -75,9 +76,9 @@ task-sound before name body ends e =
     let bad = row-passed (not (may_be_parent before line.parent)) BadParent _ order.1 in
     let held = row-passed (not (is_held before line)) NotHeld _ bad.1 in
     let over = row-passed (not (is_block_within before line)) OverBound _ held.1 in
-    let room = and_parts (is_body_within body && are_ends_within ends)
+    let room = and_parts (is_body_within version body && are_ends_within ends)
     (nat_lt (length before.tasks) TASKS_MAX) (not-false _ limit.0) in
-    let numbers = and_parts (is_body_within body) (are_ends_within ends) room.0 in
+    let numbers = and_parts (is_body_within version body) (are_ends_within ends) room.0 in
     let counted = and_parts (option_map_or (λ by. is_count_within by.at) ends.by true
     && option_map_or is_count_within ends.until true)
     (option_map_or is_bound_within ends.block true) numbers.1 in
@@ -214,29 +215,30 @@ numbers-below before are words all =
 
 -- ---- what a kind has
 
-count-ends : (before : List Named) (body : BodyWords) → is_body_within body ≡ true
-    → HasEnds (kind_of_body body) (length (phaser_numbers before (inputs_of body)))
-    (length (phaser_numbers before (outputs_of body)))
-count-ends names (source file output) e = (refl, refl)
-count-ends names (fir input output shift plus taps) e = (refl, refl)
-count-ends names (delay input output steps) e = (refl, refl)
-count-ends names (decimate input output every) e = (refl, refl)
-count-ends names (split input outputs) e =
+count-ends : (version : Version) (names : List Named) (body : BodyWords)
+    → is_body_within version body ≡ true
+    → HasEnds (kind_of_body body) (length (phaser_numbers names (inputs_of body)))
+    (length (phaser_numbers names (outputs_of body)))
+count-ends version names (source file output) e = (refl, refl)
+count-ends version names (fir input output filter) e = (refl, refl)
+count-ends version names (delay input output steps) e = (refl, refl)
+count-ends version names (decimate input output every) e = (refl, refl)
+count-ends version names (split input outputs) e =
     let within = and_parts (nat_le 2 (length outputs)) (nat_le (length outputs) ENDS_MAX) e in
     let same = length-map outputs (number_in names) in (
       refl,
       rw same (leb-true 2 (length outputs) within.0),
       rw same (leb-true (length outputs) ENDS_MAX within.1),
     )
-count-ends names (join inputs output) e =
+count-ends version names (join inputs output) e =
     let within = and_parts (nat_le 2 (length inputs)) (nat_le (length inputs) ENDS_MAX) e in
     let same = length-map inputs (number_in names) in (
       rw same (leb-true 2 (length inputs) within.0),
       rw same (leb-true (length inputs) ENDS_MAX within.1),
       refl,
     )
-count-ends names (peer input exchange output factor) e = (refl, refl)
-count-ends names (sink input) e = (refl, refl)
+count-ends version names (peer input exchange output factor) e = (refl, refl)
+count-ends version names (sink input) e = (refl, refl)
 
 exchange-below : (k : Kind) (inputs : List ℕ) → is_exchange_below k inputs ≡ true
     → IsExchangeBelow k inputs
@@ -248,30 +250,62 @@ exchange-below kind.Join inputs e = tt
 exchange-below kind.Peer inputs e = ltb-true (get_or inputs 0 0) (get_or inputs 1 0) e
 exchange-below kind.Sink inputs e = tt
 
-has-taps : (body : BodyWords) → IsBody Three body → is_body_within body ≡ true
-    → HasTaps (kind_of_body body) (taps_of body) (filter_form body)
-has-taps (source file output) is e = (refl, refl)
-has-taps (fir input output shift plus taps) is e =
-    let each = and_parts (nat_le (nat_value shift) SHIFT_MAX && is_plus_within plus
-    && nat_le (length taps) FEW_TAPS_MAX) (list_all is_tap_within taps) e in
-    let counts = and_parts (nat_le (nat_value shift) SHIFT_MAX && is_plus_within plus)
-    (nat_le (length taps) FEW_TAPS_MAX) each.0 in
-    let limits = and_parts (nat_le (nat_value shift) SHIFT_MAX) (is_plus_within plus) counts.0 in
-    let same = length-map taps int_value in
-    let some = is.4.0 in
-    let few = leb-true (length taps) FEW_TAPS_MAX counts.1 in
+-- no version has more taps than the third
+few-taps : (version : Version) (n : ℕ) → nat_le n (most_taps version) ≡ true → n ≤ TAPS_MAX
+few-taps One n e = let few = leb-true n FEW_TAPS_MAX e in omega (arith, few)
+few-taps Two n e = let few = leb-true n FEW_TAPS_MAX e in omega (arith, few)
+few-taps Three n e = leb-true n TAPS_MAX e
+
+-- taps that are within their limit
+small-taps : (words : List Word) → list_all is_tap_within words ≡ true
+    → All (λ tap. unsigned_abs tap ≤ TAP_MAX) (map int_value words)
+small-taps words e =
+    All-map (λ tap. unsigned_abs tap ≤ TAP_MAX) int_value words
+    (each-passed is_tap_within (λ tap. unsigned_abs (int_value tap) ≤ TAP_MAX)
+    (λ tap. leb-true (unsigned_abs (int_value tap)) TAP_MAX) words e)
+
+filter-taps : (version : Version) (filter : FilterWords) → IsFilter Three filter
+    → is_filter_within version filter ≡ true
+    → AreTaps (map int_value (filter.taps ++ filter.again)) (form_in filter)
+filter-taps version filter is e =
+    let few = nat_le (length filter.taps) (most_taps version) in
+    let small = list_all is_tap_within filter.taps in
+    let each = and_parts (is_form_within filter && few && small) (list_all is_tap_within filter.again)
+    e in
+    let ahead = and_parts (is_form_within filter && few) small each.0 in
+    let count = and_parts (is_form_within filter) few ahead.0 in
+    let single = option_map_or is_function_within filter.single true in
+    let shift = nat_le (nat_value filter.shift) SHIFT_MAX in
+    let plus = is_plus_within filter.plus in
+    let age = nat_le (age_of filter.delay) DELAY_MAX in
+    let puts = nat_le (length filter.again) AGAIN_MAX in
+    let named = and_parts (shift && plus && age && puts) single count.0 in
+    let again = and_parts (shift && plus && age) puts named.0 in
+    let old = and_parts (shift && plus) age again.0 in
+    let sums = and_parts shift plus old.0 in
+    let long : length (map int_value (filter.taps ++ filter.again))
+    ≡ length filter.taps + length filter.again =
+    length-map (filter.taps ++ filter.again) int_value ∙ length-append filter.taps filter.again in
+    let some = is.taps.0 in
+    let below = few-taps version (length filter.taps) count.1 in
     record {
-      some = omega (arith, same, some);
-      few = omega (arith, same, few);
-      again_few = omega arith;
-      small = All-map (λ tap. unsigned_abs tap ≤ 2147483647) int_value taps
-          (each-passed is_tap_within (λ tap. unsigned_abs (int_value tap) ≤ 2147483647)
-          (λ tap. leb-true (unsigned_abs (int_value tap)) TAP_MAX) taps each.1);
-      shift_small = leb-true (nat_value shift) SHIFT_MAX limits.0;
-      plus_small = leb-true (unsigned_abs (plus_of plus)) PLUS_MAX limits.1;
-      delay_small = omega arith;
+      some = omega (arith, long, some);
+      few = omega (arith, long, below);
+      again_few = leb-true (length filter.again) AGAIN_MAX again.1;
+      small = rw (map-append int_value filter.taps filter.again)
+          (All-append (λ tap. unsigned_abs tap ≤ TAP_MAX) (map int_value filter.taps)
+          (map int_value filter.again) (small-taps filter.taps ahead.1) (small-taps filter.again each.1));
+      shift_small = leb-true (nat_value filter.shift) SHIFT_MAX sums.0;
+      plus_small = leb-true (unsigned_abs (plus_of filter.plus)) PLUS_MAX sums.1;
+      delay_small = leb-true (age_of filter.delay) DELAY_MAX old.1;
     }
-has-taps (delay input output steps) is e = record {
+
+has-taps : (version : Version) (body : BodyWords) → IsBody Three body
+    → is_body_within version body ≡ true
+    → HasTaps (kind_of_body body) (taps_of body) (filter_form body)
+has-taps version (source file output) is e = (refl, refl)
+has-taps version (fir input output filter) is e = filter-taps version filter is.2 e
+has-taps version (delay input output steps) is e = record {
   some = omega arith;
   few = omega arith;
   again_few = omega arith;
@@ -284,36 +318,36 @@ has-taps (delay input output steps) is e = record {
     one-small : All (λ tap. unsigned_abs tap ≤ 2147483647) (pos 1 ∷ [])
     one-small = All-cons (λ tap. unsigned_abs tap ≤ 2147483647) (pos 1) [] (omega arith)
         (All-nil (λ tap. unsigned_abs tap ≤ 2147483647))
-has-taps (decimate input output every) is e = (refl, refl)
-has-taps (split input outputs) is e = (refl, refl)
-has-taps (join inputs output) is e = (refl, refl)
-has-taps (peer input exchange output factor) is e = (refl, refl)
-has-taps (sink input) is e = (refl, refl)
+has-taps version (decimate input output every) is e = (refl, refl)
+has-taps version (split input outputs) is e = (refl, refl)
+has-taps version (join inputs output) is e = (refl, refl)
+has-taps version (peer input exchange output factor) is e = (refl, refl)
+has-taps version (sink input) is e = (refl, refl)
 
-has-factor : (body : BodyWords) → is_body_within body ≡ true
+has-factor : (version : Version) (body : BodyWords) → is_body_within version body ≡ true
     → HasFactor (kind_of_body body) (factor_of body)
-has-factor (source file output) e = refl
-has-factor (fir input output shift plus taps) e = refl
-has-factor (delay input output steps) e = refl
-has-factor (decimate input output every) e = refl
-has-factor (split input outputs) e = refl
-has-factor (join inputs output) e = refl
-has-factor (peer input exchange output factor) e =
+has-factor version (source file output) e = refl
+has-factor version (fir input output filter) e = refl
+has-factor version (delay input output steps) e = refl
+has-factor version (decimate input output every) e = refl
+has-factor version (split input outputs) e = refl
+has-factor version (join inputs output) e = refl
+has-factor version (peer input exchange output factor) e =
     leb-true (unsigned_abs (int_value factor)) FACTOR_MAX e
-has-factor (sink input) e = refl
+has-factor version (sink input) e = refl
 
-has-every : (body : BodyWords) → is_body_within body ≡ true
+has-every : (version : Version) (body : BodyWords) → is_body_within version body ≡ true
     → HasEvery (kind_of_body body) (every_of body)
-has-every (source file output) e = refl
-has-every (fir input output shift plus taps) e = refl
-has-every (delay input output steps) e = refl
-has-every (decimate input output every) e =
+has-every version (source file output) e = refl
+has-every version (fir input output filter) e = refl
+has-every version (delay input output steps) e = refl
+has-every version (decimate input output every) e =
     let within = and_parts (nat_le 1 (nat_value every)) (nat_le (nat_value every) EVERY_MAX) e in
     (leb-true 1 (nat_value every) within.0, leb-true (nat_value every) EVERY_MAX within.1)
-has-every (split input outputs) e = refl
-has-every (join inputs output) e = refl
-has-every (peer input exchange output factor) e = refl
-has-every (sink input) e = refl
+has-every version (split input outputs) e = refl
+has-every version (join inputs output) e = refl
+has-every version (peer input exchange output factor) e = refl
+has-every version (sink input) e = refl
 
 has-until : (until : Option Word) → option_map_or is_count_within until true ≡ true
     → IfSome (option_map nat_value until) (λ steps. steps ≤ STEPS_MAX)
@@ -324,7 +358,7 @@ has-until (Some steps) e = leb-true (nat_value steps) STEPS_MAX e
 
 parents-are : (body : BodyWords) → may_have_parent body ≡ has_children (kind_of_body body)
 parents-are (source file output) = refl
-parents-are (fir input output shift plus taps) = refl
+parents-are (fir input output filter) = refl
 parents-are (delay input output steps) = refl
 parents-are (decimate input output every) = refl
 parents-are (split input outputs) = refl
@@ -367,7 +401,7 @@ new-parent before are child (Some by) known at may holds allowed =
 blocks-are : (version : Version) (body : BodyWords) → may_have_blocks version body ≡ true
     → has_blocks (kind_of_body body) ≡ true
 blocks-are version (source file output) may = refl
-blocks-are version (fir input output shift plus taps) may = refl
+blocks-are version (fir input output filter) may = refl
 blocks-are version (delay input output steps) may = refl
 blocks-are version (decimate input output every) may = let clash : false ≡ true = may in absurd (cc)
 blocks-are version (split input outputs) may = let clash : false ≡ true = may in absurd (cc)
@@ -397,7 +431,7 @@ block-kind version body (Some steps) is none =
 joins-are : (version : Version) (body : BodyWords) → may_join_now version body ≡ true
     → kind_of_body body ≡ kind.Sink
 joins-are version (source file output) may = let clash : false ≡ true = may in absurd (cc)
-joins-are version (fir input output shift plus taps) may =
+joins-are version (fir input output filter) may =
     let clash : false ≡ true = may in absurd (cc)
 joins-are version (delay input output steps) may = let clash : false ≡ true = may in absurd (cc)
 joins-are version (decimate input output every) may = let clash : false ≡ true = may in absurd (cc)
@@ -436,11 +470,11 @@ numbered before n body ends =
       signals = is.signals;
     })
 
-pub IsTaskLine-new : (version : Version) (before : Graph) (n : ℕ) (name : Word) (body : BodyWords)
-    (ends : EndWords) → IsGraph before → IsBody Three body → AreEnds version body ends
-    → IsSound before name body ends
+pub IsTaskLine-new : (version read : Version) (before : Graph) (n : ℕ) (name : Word)
+    (body : BodyWords) (ends : EndWords) → IsGraph before → IsBody Three body → AreEnds version body ends
+    → IsSound read before name body ends
     → IsTaskLine before (length before.tasks) (task_line before.names n body ends)
-IsTaskLine-new version before n name body ends is is_body are_ends sound =
+IsTaskLine-new version read before n name body ends is is_body are_ends sound =
     let names = before.names in
     let are : AreNames before = is.names in
     let steps = block_of ends.block in
@@ -454,7 +488,7 @@ IsTaskLine-new version before n name body ends is is_body are_ends sound =
     ≡ phaser_numbers names (inputs_of body) ++ phaser_numbers names (outputs_of body) =
     map-append (number_in names) (inputs_of body) (outputs_of body) in
     record {
-      ends = count-ends names body sound.within;
+      ends = count-ends read names body sound.within;
       inputs = numbers-below before are (inputs_of body) known.0;
       outputs = numbers-below before are (outputs_of body) known.1;
       distinct = ap is_distinct (sym together)
@@ -467,9 +501,9 @@ IsTaskLine-new version before n name body ends is is_body are_ends sound =
       plain = each-passed (is_plain before) (λ y. (phaser_at before y).single ≡ None)
           (λ y e. nothing-there (phaser_at before y).single (not-true _ e))
           (phaser_numbers names (outputs_of body)) sound.plain;
-      taps = has-taps body is_body sound.within;
-      factor = has-factor body sound.within;
-      every = has-every body sound.within;
+      taps = has-taps read body is_body sound.within;
+      factor = has-factor read body sound.within;
+      every = has-every read body sound.within;
       until = has-until ends.until sound.until;
       parent = numbered before n body ends
           (new-parent before are (task_line names 0 body ends) ends.by sound.known sound.at sound.may

@@ -27,7 +27,7 @@ one_step version n before line a b (inr (inr (p, d, dd, x))) (inr (inl (q, none,
     absurd (none d dd)
 one_step version n before line a b (inr (inr (p, d, dd, x))) (inr (inr (q, e, de, y))) =
     let same : d ≡ e = one_declaration version version _ d e dd.spells de.spells in
-    x ∙ ap (λ d. line_outcome n before d (kind_of before d)) same ∙ sym y
+    x ∙ ap (λ d. line_outcome n before d (kind_of version before d)) same ∙ sym y
 
 pub one_reading_from : (version : Version) (n : ℕ) (before : Graph) (lines : List (List ℕ))
     (a b : Result Graph GraphFault) → Reads version n before lines a

@@ -6,6 +6,7 @@ use Rattle.std.proofs.lemmas.Bool.Decides.{nat_tests}
 use Rattle.phase_base.specs.Words.{Word}
 use Rattle.phase_base.specs.declared.operation.Op.{Op}
 use Rattle.graph_text.specs.Decls.{phaser, task, FunctionWords, BodyWords, ByWords, EndWords}
+use Rattle.graph_text.specs.declared.version.Version.{Version}
 use Rattle.graph_base.specs.Graphs.{Graph, Task}
 use Rattle.graph_base.specs.Names.{place_of}
 use Rattle.graph_lang.specs.WordValues.{task_line, files_in}
@@ -32,26 +33,26 @@ none-if true x e = absurd (cc)
 none-if false x e = refl
 
 -- a phaser's line with a number outside its limit, or after too many
-pub phaser-limit : (before : Graph) (name : Word) (operation : Op) (bound : Word)
+pub phaser-limit : (version : Version) (before : Graph) (name : Word) (operation : Op) (bound : Word)
     (single : Option FunctionWords)
     → (is_phaser_within bound single && nat_lt (length before.phasers) PHASERS_MAX) ≡ false
-    → Some Limit ≡ kind_of before (phaser name operation bound single)
-phaser-limit before name operation bound single e = rw e refl
+    → Some Limit ≡ kind_of version before (phaser name operation bound single)
+phaser-limit version before name operation bound single e = rw e refl
 
 -- a phaser's line that passes no limit, by whether its name is there
-pub phaser-named : (before : Graph) (name : Word) (operation : Op) (bound : Word)
+pub phaser-named : (version : Version) (before : Graph) (name : Word) (operation : Op) (bound : Word)
     (single : Option FunctionWords)
     → (is_phaser_within bound single && nat_lt (length before.phasers) PHASERS_MAX) ≡ true
-    → kind_of before (phaser name operation bound single)
+    → kind_of version before (phaser name operation bound single)
     ≡ (if is_some (place_of before.names name) then Some Twice else None)
-phaser-named before name operation bound single e = rw e refl
+phaser-named version before name operation bound single e = rw e refl
 
 -- the name of a phaser without fault is new
-pub phaser-new : (before : Graph) (name : Word) (operation : Op) (bound : Word)
+pub phaser-new : (version : Version) (before : Graph) (name : Word) (operation : Op) (bound : Word)
     (single : Option FunctionWords)
-    → kind_of before (phaser name operation bound single) ≡ None
+    → kind_of version before (phaser name operation bound single) ≡ None
     → place_of before.names name ≡ None
-phaser-new before name operation bound single e =
+phaser-new version before name operation bound single e =
     let fits = is_phaser_within bound single in
     let limit = row-passed (not (fits && nat_lt (length before.phasers) PHASERS_MAX)) Limit _ e in
     let twice = row-passed (is_some (place_of before.names name)) Twice _ limit.1 in
@@ -78,10 +79,10 @@ later_kind before name phasers by t = first_row (
     ∷ [])
 
 -- a task's line that passes a limit has that fault first
-pub task-limit : (before : Graph) (name : Word) (body : BodyWords) (ends : EndWords)
-    → is_past_limit before (task name body ends) ≡ true
-    → kind_of before (task name body ends) ≡ Some Limit
-task-limit before name body ends e =
+pub task-limit : (version : Version) (before : Graph) (name : Word) (body : BodyWords) (ends : EndWords)
+    → is_past_limit version before (task name body ends) ≡ true
+    → kind_of version before (task name body ends) ≡ Some Limit
+task-limit version before name body ends e =
     ap (λ past. if past then Some Limit
     else later_kind before name (phasers_of body) ends.by (task_line before.names 0 body ends)) e
 
@@ -105,17 +106,17 @@ room-some body ends n m b e free =
 
 -- the kind of fault of a task's line that passes no limit is a later one; the number of the line
 -- decides nothing
-kind-later : (before : Graph) (name : Word) (body : BodyWords) (ends : EndWords) (n : ℕ)
-    → is_past_limit before (task name body ends) ≡ false
-    → kind_of before (task name body ends)
+kind-later : (version : Version) (before : Graph) (name : Word) (body : BodyWords) (ends : EndWords) (n : ℕ)
+    → is_past_limit version before (task name body ends) ≡ false
+    → kind_of version before (task name body ends)
     ≡ later_kind before name (phasers_of body) ends.by (task_line before.names n body ends)
-kind-later before name body ends n e =
+kind-later version before name body ends n e =
     ap (λ past. if past then Some Limit
     else later_kind before name (phasers_of body) ends.by (task_line before.names n body ends)) e
 
 -- its first kind of fault, row by row
-module _ (before : Graph) (name : Word) (body : BodyWords) (ends : EndWords) (n : ℕ)
-    (past : is_past_limit before (task name body ends) ≡ false) where
+module _ (version : Version) (before : Graph) (name : Word) (body : BodyWords) (ends : EndWords) (n : ℕ)
+    (past : is_past_limit version before (task name body ends) ≡ false) where
   abbrev line : Task
   line = task_line before.names n body ends
 
@@ -128,20 +129,20 @@ module _ (before : Graph) (name : Word) (body : BodyWords) (ends : EndWords) (n 
   abbrev after-limit : Bool → Option FaultKind
   after-limit b = if b then Some Twice else (if not known then Some Unknown else last_kind before line)
 
-  pub task-twice : again ≡ true → kind_of before (task name body ends) ≡ Some Twice
-  task-twice twice = kind-later before name body ends n past ∙ ap after-limit twice
+  pub task-twice : again ≡ true → kind_of version before (task name body ends) ≡ Some Twice
+  task-twice twice = kind-later version before name body ends n past ∙ ap after-limit twice
 
   abbrev after-twice : Bool → Option FaultKind
   after-twice b = if not b then Some Unknown else last_kind before line
 
-  pub task-unknown : again ≡ false → known ≡ false → kind_of before (task name body ends) ≡ Some Unknown
+  pub task-unknown : again ≡ false → known ≡ false → kind_of version before (task name body ends) ≡ Some Unknown
   task-unknown new none =
-      kind-later before name body ends n past ∙ ap after-limit new ∙ ap after-twice none
+      kind-later version before name body ends n past ∙ ap after-limit new ∙ ap after-twice none
 
   pub task-last : again ≡ false → known ≡ true → (t : Task) → t ≡ line
-      → kind_of before (task name body ends) ≡ last_kind before t
+      → kind_of version before (task name body ends) ≡ last_kind before t
   task-last new all t is =
-      kind-later before name body ends n past ∙ ap after-limit new ∙ ap after-twice all
+      kind-later version before name body ends n past ∙ ap after-limit new ∙ ap after-twice all
       ∙ ap (last_kind before) (sym is)
 
 -- the graph with the task of a line

@@ -68,11 +68,11 @@ record IsSoundPhaser (before : Graph) (name bound : Word) (function : Option Fun
   few : length before.phasers < PHASERS_MAX
   absent : place_of before.names name ≡ None
 
-phaser-sound : (before : Graph) (name : Word) (operation : Op) (bound : Word)
+phaser-sound : (version : Version) (before : Graph) (name : Word) (operation : Op) (bound : Word)
     (function : Option FunctionWords)
-    → kind_of before (phaser name operation bound function) ≡ None
+    → kind_of version before (phaser name operation bound function) ≡ None
     → IsSoundPhaser before name bound function
-phaser-sound before name operation bound function e =
+phaser-sound version before name operation bound function e =
     let fits = is_bound_within bound && option_map_or is_function_within function true in
     let limit = row-passed (not (fits && nat_lt (length before.phasers) PHASERS_MAX)) Limit _ e in
     let twice = row-passed (is_some (place_of before.names name)) Twice _ limit.1 in
@@ -225,7 +225,7 @@ sources-more lines line = sum_by_push (λ line. cond (is_source line.kind) 1 0) 
 files-more : (body : BodyWords)
     → length (files_in body) ≡ cond (is_source (kind_of_body body)) 1 0
 files-more (source file output) = refl
-files-more (fir input output shift plus taps) = refl
+files-more (fir input output filter) = refl
 files-more (delay input output steps) = refl
 files-more (decimate input output every) = refl
 files-more (split input outputs) = refl
@@ -237,7 +237,7 @@ files-more (sink input) = refl
 files-are : (body : BodyWords) → IsBody Three body → All (λ file. is_file file ≡ true) (files_in body)
 files-are (source file output) is =
     All-cons (λ file. is_file file ≡ true) file [] is.0 (All-nil (λ file. is_file file ≡ true))
-files-are (fir input output shift plus taps) is = All-nil (λ file. is_file file ≡ true)
+files-are (fir input output filter) is = All-nil (λ file. is_file file ≡ true)
 files-are (delay input output steps) is = All-nil (λ file. is_file file ≡ true)
 files-are (decimate input output every) is = All-nil (λ file. is_file file ≡ true)
 files-are (split input outputs) is = All-nil (λ file. is_file file ≡ true)
@@ -274,10 +274,10 @@ lines-more before after line more counted above lines =
           (λ t less. rw (old t less) (above t less)) u below t less);
     }
 
-task-keeps : (before : Graph) (n : ℕ) (name : Word) (body : BodyWords) (ends : EndWords)
-    → IsWellFormedBy is_name Three (task name body ends) → IsSound before name body ends → 1 ≤ n → AreAbove n before
+task-keeps : (version : Version) (before : Graph) (n : ℕ) (name : Word) (body : BodyWords) (ends : EndWords)
+    → IsWellFormedBy is_name Three (task name body ends) → IsSound version before name body ends → 1 ≤ n → AreAbove n before
     → IsGraph before → IsGraph (with_declared before n (task name body ends))
-task-keeps before n name body ends formed sound counted above is =
+task-keeps version before n name body ends formed sound counted above is =
     let line = task_line before.names n body ends in
     let after = with_declared before n (task name body ends) in
     let long = length_push before.tasks line in
@@ -287,7 +287,7 @@ task-keeps before n name body ends formed sound counted above is =
       phaser = λ p below. refl;
       task = λ t below. get_or_append_left before.tasks (line ∷ []) no_task t below;
     } in
-    let new = IsTaskLine-new Three before n name body ends is formed.1 formed.2 sound in
+    let new = IsTaskLine-new Three version before n name body ends is formed.1 formed.2 sound in
     record {
       few_phasers = is.few_phasers;
       few_tasks = omega (arith, long, few);
@@ -309,14 +309,14 @@ task-keeps before n name body ends formed sound counted above is =
     }
 
 -- a line without fault keeps it
-pub line-keeps : (before : Graph) (n : ℕ) (d : Decl) → IsWellFormedBy is_name Three d
-    → kind_of before d ≡ None → 1 ≤ n → AreAbove n before → IsGraph before
+pub line-keeps : (version : Version) (before : Graph) (n : ℕ) (d : Decl) → IsWellFormedBy is_name Three d
+    → kind_of version before d ≡ None → 1 ≤ n → AreAbove n before → IsGraph before
     → IsGraph (with_declared before n d)
-line-keeps before n (phaser name operation bound function) formed e counted above is =
+line-keeps version before n (phaser name operation bound function) formed e counted above is =
     phaser-keeps before n name operation bound function formed.0
-    (phaser-sound before name operation bound function e) is
-line-keeps before n (task name body ends) formed e counted above is =
-    task-keeps before n name body ends formed (task-sound before name body ends e) counted
+    (phaser-sound version before name operation bound function e) is
+line-keeps version before n (task name body ends) formed e counted above is =
+    task-keeps version before n name body ends formed (task-sound version before name body ends e) counted
     above is
 
 line-above : (before : Graph) (n : ℕ) (d : Decl) → AreAbove n before
@@ -335,7 +335,7 @@ pub record IsBefore (n : ℕ) (graph : Graph) : Type 0 where
   pub is : IsGraph graph
 
 told-keeps : (version : Version) (before after : Graph) (n : ℕ) (d : Decl)
-    (fault : Option FaultKind) → kind_of before d ≡ fault → IsWellFormed version d
+    (fault : Option FaultKind) → kind_of version before d ≡ fault → IsWellFormed version d
     → IsBefore n before
     → Ok after ≡ line_outcome n before d fault → IsBefore (n + 1) after
 told-keeps version before after n d (Some kind) e formed is line_outcome =
@@ -346,7 +346,7 @@ told-keeps version before after n d None e formed is line_outcome =
     subst (IsBefore (n + 1)) (sym one) (record {
       counted = omega arith;
       above = line-above before n d is.above;
-      is = line-keeps before n d (well_formed_later version d formed) e is.counted is.above is.is;
+      is = line-keeps version before n d (well_formed_later version d formed) e is.counted is.above is.is;
     })
 
 step-keeps : (version : Version) (n : ℕ) (before : Graph) (line : List ℕ) (after : Graph)
@@ -362,7 +362,7 @@ step-keeps version n before line after (inl (ignored, e)) is =
 step-keeps version n before line after (inr (inl (words, none, e))) is =
     let clash : Ok after ≡ fault_at n Syntax = e in absurd (cc)
 step-keeps version n before line after (inr (inr (words, d, declares, e))) is =
-    told-keeps version before after n d (kind_of before d) refl declares.spells.well_formed is e
+    told-keeps version before after n d (kind_of version before d) refl declares.spells.well_formed is e
 
 pub reads-keep : (version : Version) (n : ℕ) (before : Graph) (lines : List (List ℕ))
     (graph : Graph) → Reads version n before lines (Ok graph) → IsBefore n before → IsGraph graph

@@ -76,7 +76,7 @@ ignored version n before line e = inl (e, refl)
 
 -- a line that declares d, without fault
 declared : (version : Version) (n : ℕ) (before : Graph) (line : List ℕ) (d : Decl)
-    → is_ignored line ≡ false → Declares version line d → kind_of before d ≡ None
+    → is_ignored line ≡ false → Declares version line d → kind_of version before d ≡ None
     → Steps version n before line (Ok (with_declared before n d))
 declared version n before line d words declares e =
     inr (inr (words, d, declares, sym (ap (line_outcome n before d) e)))

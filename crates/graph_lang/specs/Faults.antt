@@ -1,5 +1,5 @@
 -- The kinds of fault of a line that is in the grammar, and their order.
-use Rattle.std.specs.Prelude.{ℕ, ◌==◌, Bool, true, false, ◌&&◌, ◌||◌, not, nat_lt, nat_le, List, [], ◌∷◌, ◌++◌, length, get_or, Option, Some, None, is_some, unsigned_abs}
+use Rattle.std.specs.Prelude.{ℕ, ◌==◌, if◌then◌else◌, Bool, true, false, ◌&&◌, ◌||◌, not, nat_lt, nat_le, List, [], ◌∷◌, ◌++◌, length, get_or, Option, Some, None, is_some, unsigned_abs}
 use Rattle.phase_base.specs.Lists.{first_row}
 use Rattle.std.specs.List.{list_all, list_any}
 use Rattle.std.specs.Option.{option_map_or}
@@ -9,10 +9,12 @@ use Rattle.phase_base.specs.declared.limits.TheConstants.{BOUND_MAX}
 use Rattle.phase_accum.specs.Sends.{value_max}
 use Rattle.phase_base.specs.Words.{Word}
 use Rattle.phase_base.specs.Numbers.{nat_value, int_value}
-use Rattle.graph_text.specs.Decls.{Decl, phaser, task, FunctionWords, neg, abs, halve, clamp, ByWords, EndWords, BodyWords, source, fir, delay, decimate, split, join, peer, sink}
+use Rattle.graph_text.specs.Decls.{Decl, phaser, task, FunctionWords, neg, abs, halve, clamp, ByWords, EndWords, FilterWords, BodyWords, source, fir, delay, decimate, split, join, peer, sink}
+use Rattle.graph_text.specs.Versions.{has_third}
+use Rattle.graph_text.specs.declared.version.Version.{Version}
 use Rattle.graph_base.specs.Graphs.{Graph, Task, Named, task_at, phaser_at}
 use Rattle.graph_base.specs.Names.{place_of, phaser_named, task_named}
-use Rattle.graph_lang.specs.WordValues.{inputs_of, outputs_of, plus_of, task_line}
+use Rattle.graph_lang.specs.WordValues.{age_of, inputs_of, outputs_of, plus_of, task_line}
 use Rattle.graph_base.specs.TaskLines.{has_children}
 use Rattle.graph_base.specs.declared.limits.TheConstants.{PHASERS_MAX, TASKS_MAX, ENDS_MAX, STEPS_MAX, FACTOR_MAX, EVERY_MAX}
 use Rattle.graph_base.specs.declared.line.Kind.{Kind}
@@ -20,7 +22,7 @@ use Rattle.graph_base.specs.declared.line.Kind.TheVariants as kind
 use Rattle.graph_base.specs.declared.line.Parent.{Parent}
 use Rattle.graph_lang.specs.declared.fault.FaultKind.{FaultKind}
 use Rattle.graph_lang.specs.declared.fault.FaultKind.TheVariants.{Limit, Twice, Unknown, OutBeforeIn, BadParent, NotHeld, OverBound}
-use Rattle.stream_filters.specs.declared.fir.TheConstants.{DELAY_MAX, PLUS_MAX, FEW_TAPS_MAX, TAP_MAX, SHIFT_MAX}
+use Rattle.stream_filters.specs.declared.fir.TheConstants.{AGAIN_MAX, DELAY_MAX, FEW_TAPS_MAX, PLUS_MAX, SHIFT_MAX, TAP_MAX, TAPS_MAX}
 
 -- ---- limits
 
@@ -49,24 +51,40 @@ is_tap_within tap = nat_le (unsigned_abs (int_value tap)) TAP_MAX
 abbrev pub is_plus_within : Option Word → Bool
 is_plus_within plus = nat_le (unsigned_abs (plus_of plus)) PLUS_MAX
 
+-- how many taps for samples a filter may have in a text of this version
+abbrev pub most_taps : Version → ℕ
+most_taps version = if has_third version then TAPS_MAX else FEW_TAPS_MAX
+
+-- whether what a filter does beside weighing samples is within its limits, and how many taps it has
+-- for what it put
+abbrev pub is_form_within : FilterWords → Bool
+is_form_within filter =
+    nat_le (nat_value filter.shift) SHIFT_MAX && is_plus_within filter.plus
+    && nat_le (age_of filter.delay) DELAY_MAX && nat_le (length filter.again) AGAIN_MAX
+    && option_map_or is_function_within filter.single true
+
+-- whether the numbers of a filter are within their limits, in a text of this version
+abbrev pub is_filter_within : Version → FilterWords → Bool
+is_filter_within version filter =
+    is_form_within filter && nat_le (length filter.taps) (most_taps version)
+    && list_all is_tap_within filter.taps && list_all is_tap_within filter.again
+
 -- how many outputs a splitter, or inputs a joiner, may have
 abbrev pub is_number_of_ends : ℕ → Bool
 is_number_of_ends n = nat_le 2 n && nat_le n ENDS_MAX
 
--- whether the numbers of a task's words are within their limits
-abbrev pub is_body_within : BodyWords → Bool
-is_body_within (source file output) = true
-is_body_within (fir input output shift plus taps) =
-    nat_le (nat_value shift) SHIFT_MAX && is_plus_within plus && nat_le (length taps) FEW_TAPS_MAX
-    && list_all is_tap_within taps
-is_body_within (delay input output steps) = nat_le (nat_value steps) DELAY_MAX
-is_body_within (decimate input output every) =
+-- whether the numbers of a task's words are within their limits, in a text of this version
+abbrev pub is_body_within : Version → BodyWords → Bool
+is_body_within version (source file output) = true
+is_body_within version (fir input output filter) = is_filter_within version filter
+is_body_within version (delay input output steps) = nat_le (nat_value steps) DELAY_MAX
+is_body_within version (decimate input output every) =
     nat_le 1 (nat_value every) && nat_le (nat_value every) EVERY_MAX
-is_body_within (split input outputs) = is_number_of_ends (length outputs)
-is_body_within (join inputs output) = is_number_of_ends (length inputs)
-is_body_within (peer input exchange output factor) =
+is_body_within version (split input outputs) = is_number_of_ends (length outputs)
+is_body_within version (join inputs output) = is_number_of_ends (length inputs)
+is_body_within version (peer input exchange output factor) =
     nat_le (unsigned_abs (int_value factor)) FACTOR_MAX
-is_body_within (sink input) = true
+is_body_within version (sink input) = true
 
 -- whether a number of steps is within its limit
 abbrev pub is_count_within : Word → Bool
@@ -79,12 +97,13 @@ are_ends_within ends = option_map_or (λ by. is_count_within by.at) ends.by true
     && option_map_or is_count_within ends.until true
     && option_map_or is_bound_within ends.block true
 
--- whether a number of a line is past its limit, or the graph has no room for it
-abbrev pub is_past_limit : Graph → Decl → Bool
-is_past_limit before (phaser name operation bound single) =
+-- whether a number of a line of this version is past its limit, or the graph has no room for it
+abbrev pub is_past_limit : Version → Graph → Decl → Bool
+is_past_limit version before (phaser name operation bound single) =
     not (is_phaser_within bound single && nat_lt (length before.phasers) PHASERS_MAX)
-is_past_limit before (task name body ends) =
-    not (is_body_within body && are_ends_within ends && nat_lt (length before.tasks) TASKS_MAX)
+is_past_limit version before (task name body ends) =
+    not (is_body_within version body && are_ends_within ends
+    && nat_lt (length before.tasks) TASKS_MAX)
 
 -- ---- names
 
@@ -197,10 +216,10 @@ is_over_bound before (task name body ends) =
 
 -- ---- the order of the kinds
 
--- the first kind of fault of a line, after the lines above it
-abbrev pub kind_of : Graph → Decl → Option FaultKind
-kind_of before d = first_row (
-    (is_past_limit before d, Limit)
+-- the first kind of fault of a line of a text of this version, after the lines above it
+abbrev pub kind_of : Version → Graph → Decl → Option FaultKind
+kind_of version before d = first_row (
+    (is_past_limit version before d, Limit)
     ∷ (is_twice before d, Twice)
     ∷ (is_unknown before d, Unknown)
     ∷ (is_out_before_in before d, OutBeforeIn)

@@ -44,11 +44,13 @@ last_kind before t = first_row (
     ∷ (not (is_block_within before t), OverBound)
     ∷ [])
 
--- what line n of the grammar, which declares d, comes to, unless memory ran out
-abbrev pub TellsDecl : ℕ → Graph → Decl → Result Graph GraphRefusal → Type 0
-TellsDecl n before d (Ok after) = Ok after ≡ line_outcome n before d (kind_of before d)
-TellsDecl n before d (Err (refusal.Fault f)) = Err f ≡ line_outcome n before d (kind_of before d)
-TellsDecl n before d (Err refusal.OutOfMemory) = Unit {0}
+-- what line n of a text of this version, which declares d, comes to, unless memory ran out
+abbrev pub TellsDecl : Version → ℕ → Graph → Decl → Result Graph GraphRefusal → Type 0
+TellsDecl version n before d (Ok after) =
+    Ok after ≡ line_outcome n before d (kind_of version before d)
+TellsDecl version n before d (Err (refusal.Fault f)) =
+    Err f ≡ line_outcome n before d (kind_of version before d)
+TellsDecl version n before d (Err refusal.OutOfMemory) = Unit {0}
 
 -- why a line stopped the reading of a text of this version, unless memory ran out
 abbrev pub TellsFault : Version → ℕ → Graph → List ℕ → GraphRefusal → Type 0

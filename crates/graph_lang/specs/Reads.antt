@@ -75,7 +75,7 @@ Steps version n before line outcome =
     ⊎ ((is_ignored line ≡ false) × ((d : Decl) → ¬ (Declares version line d))
     × (outcome ≡ fault_at n Syntax))
     ⊎ ((is_ignored line ≡ false) × (d : Decl) × Declares version line d
-    × (outcome ≡ line_outcome n before d (kind_of before d)))
+    × (outcome ≡ line_outcome n before d (kind_of version before d)))
 
 -- the lines from number n on, after the lines above them: the graph that all of them declare, or
 -- the first fault

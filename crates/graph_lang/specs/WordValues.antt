@@ -1,10 +1,10 @@
 -- What the words of a line stand for, after the lines above it.
-use Rattle.std.specs.Prelude.{ℕ, Bool, false, List, [], ◌∷◌, map, Option, Some, None, option_map, ℤ, pos}
+use Rattle.std.specs.Prelude.{ℕ, Bool, false, List, [], ◌∷◌, ◌++◌, length, map, Option, Some, None, option_map, ℤ, pos}
 use Rattle.phase_accum.specs.declared.single.Single.{Single}
 use Rattle.phase_accum.specs.declared.single.Single.TheVariants.{Neg, Abs, Halve, Clamp}
 use Rattle.phase_base.specs.Words.{Word}
 use Rattle.phase_base.specs.Numbers.{nat_value, int_value}
-use Rattle.graph_text.specs.Decls.{FunctionWords, neg, abs, halve, clamp, ByWords, EndWords, BodyWords, source, fir, delay, decimate, split, join, peer, sink}
+use Rattle.graph_text.specs.Decls.{FunctionWords, neg, abs, halve, clamp, ByWords, EndWords, FilterWords, BodyWords, source, fir, delay, decimate, split, join, peer, sink}
 use Rattle.graph_base.specs.Graphs.{Task, Named}
 use Rattle.graph_base.specs.Names.{phaser_named, task_named}
 use Rattle.phase_base.specs.declared.operation.Op.{Op}
@@ -20,14 +20,14 @@ abbrev pub or_zero : Option ℕ → ℕ
 or_zero None = 0
 or_zero (Some n) = n
 
--- ---- a phaser
-
 -- the single that a function spells
 abbrev pub single_of : FunctionWords → Single
 single_of neg = Neg
 single_of abs = Abs
 single_of halve = Halve
 single_of (clamp low high) = Clamp (int_value low, int_value high)
+
+-- ---- a phaser
 
 -- the phaser that the words of a line declare
 abbrev pub phaser_line : Op → Word → Option FunctionWords → PhaserLine
@@ -42,7 +42,7 @@ phaser_line operation bound single = record {
 -- what the task of a line does: a delay is a filter
 abbrev pub kind_of_body : BodyWords → Kind
 kind_of_body (source file output) = kind.Source
-kind_of_body (fir input output shift plus taps) = kind.Fir
+kind_of_body (fir input output filter) = kind.Fir
 kind_of_body (delay input output steps) = kind.Fir
 kind_of_body (decimate input output every) = kind.Decimate
 kind_of_body (split input outputs) = kind.Split
@@ -53,7 +53,7 @@ kind_of_body (sink input) = kind.Sink
 -- the phasers that the task waits for; of a peer X and then E
 abbrev pub inputs_of : BodyWords → List Word
 inputs_of (source file output) = []
-inputs_of (fir input output shift plus taps) = input ∷ []
+inputs_of (fir input output filter) = input ∷ []
 inputs_of (delay input output steps) = input ∷ []
 inputs_of (decimate input output every) = input ∷ []
 inputs_of (split input outputs) = input ∷ []
@@ -64,7 +64,7 @@ inputs_of (sink input) = input ∷ []
 -- the phasers that the task signals; of a peer Y alone
 abbrev pub outputs_of : BodyWords → List Word
 outputs_of (source file output) = output ∷ []
-outputs_of (fir input output shift plus taps) = output ∷ []
+outputs_of (fir input output filter) = output ∷ []
 outputs_of (delay input output steps) = output ∷ []
 outputs_of (decimate input output every) = output ∷ []
 outputs_of (split input outputs) = outputs
@@ -72,9 +72,10 @@ outputs_of (join inputs output) = output ∷ []
 outputs_of (peer input exchange output factor) = output ∷ []
 outputs_of (sink input) = []
 
--- the taps of a filter, of a delay the one that copies, and none of another task
+-- the taps of a filter, of which the last ones weigh what it put; of a delay the one that copies,
+-- and none of another task
 abbrev pub taps_of : BodyWords → List ℤ
-taps_of (fir input output shift plus taps) = map int_value taps
+taps_of (fir input output filter) = map int_value (filter.taps ++ filter.again)
 taps_of (delay input output steps) = pos 1 ∷ []
 taps_of body = []
 
@@ -83,10 +84,24 @@ abbrev pub plus_of : Option Word → ℤ
 plus_of None = pos 0
 plus_of (Some plus) = int_value plus
 
+-- how many samples before the newest one the word writes that says it, or 0
+abbrev pub age_of : Option Word → ℕ
+age_of None = 0
+age_of (Some steps) = nat_value steps
+
+-- the form that the words of a filter write
+abbrev pub form_in : FilterWords → Form
+form_in filter = record {
+  shift = nat_value filter.shift;
+  plus = plus_of filter.plus;
+  delay = age_of filter.delay;
+  again = length filter.again;
+  single = option_map single_of filter.single;
+}
+
 -- the form of a filter or a delay, and none of another task
 abbrev pub filter_form : BodyWords → Form
-filter_form (fir input output shift plus taps) =
-    record no_form { shift = nat_value shift; plus = plus_of plus }
+filter_form (fir input output filter) = form_in filter
 filter_form (delay input output steps) = record no_form { delay = nat_value steps }
 filter_form body = no_form
 

@@ -25,14 +25,14 @@ use std::alloc::{AllocError, Global};
 
 impl Draft {
     /// The line of a phaser, or the first kind of fault of its words.
-    fn phaser_line(&self, words: PhaserWords<'_>) -> Result<PhaserLine, FaultKind>
+    fn phaser_line(&self, words: PhaserWords<'_>, version: Version) -> Result<PhaserLine, FaultKind>
         requires { IsWellFormedBy is_name Three (decl_of (line.Phaser words)) }
         ensures ok { IfOk result (λ found. found ≡ phaser_line words.entry.operation
             words.entry.bound.now (single_of words.entry.single)) }
         ensures none { IfOk result (λ found.
-            kind_of self.now (decl_of (line.Phaser words.entry)) ≡ None) }
+            kind_of version self.now (decl_of (line.Phaser words.entry)) ≡ None) }
         ensures err { IfErr result (λ kind.
-            Some kind ≡ kind_of self.now (decl_of (line.Phaser words.entry))) }
+            Some kind ≡ kind_of version self.now (decl_of (line.Phaser words.entry))) }
     {
         let Some(line) = phaser_line(words) else {
             return Err(FaultKind::Limit);
@@ -51,10 +51,11 @@ impl Draft {
         &self,
         alloc: Global,
         words: TaskWords<'_, '_>,
+        version: Version,
     ) -> Result<Option<(Numbers, EndNumbers)>, AllocError>
         requires { IsWellFormedBy is_name Three (decl_of (line.Task words)) }
         ensures within { IfOk result (λ found. is_some found
-            ≡ not (is_past_limit self.now (decl_of (line.Task words.entry)))) }
+            ≡ not (is_past_limit version self.now (decl_of (line.Task words.entry)))) }
         ensures numbers { IfOk result (λ found. IfSome found (λ both.
             AreNumbersOf both.0 (body_of words.entry.body))) }
         ensures steps { IfOk result (λ found. IfSome found (λ both.
@@ -66,7 +67,7 @@ impl Draft {
         let Some(steps) = steps_of(words.ends) else {
             return Ok(None);
         };
-        match numbers_of(alloc, words.body)? {
+        match numbers_of(alloc, words.body, version)? {
             None => Ok(None),
             Some(numbers) => Ok(Some((numbers, steps))),
         }
@@ -78,14 +79,15 @@ impl Draft {
         alloc: Global,
         number: u64,
         words: PhaserWords<'_>,
+        version: Version,
     ) -> Result<(), GraphRefusal>
         requires { IsWellFormedBy is_name Three (decl_of (line.Phaser words)) }
         ensures ok { OnOk result
-            (TellsDecl number self.old (decl_of (line.Phaser words.entry)) (Ok self.new)) }
+            (TellsDecl version number self.old (decl_of (line.Phaser words.entry)) (Ok self.new)) }
         ensures fault { IfErr result (λ e.
-            TellsDecl number self.old (decl_of (line.Phaser words.entry)) (Err e)) }
+            TellsDecl version number self.old (decl_of (line.Phaser words.entry)) (Err e)) }
     {
-        match self.phaser_line(words) {
+        match self.phaser_line(words, version) {
             Err(kind) => Err(fault(number, kind)),
             Ok(line) => {
                 self.add_phaser(alloc, words.name, line.op, line.bound, line.single)?;
@@ -100,14 +102,15 @@ impl Draft {
         alloc: Global,
         number: u64,
         words: TaskWords<'_, '_>,
+        version: Version,
     ) -> Result<(), GraphRefusal>
         requires { IsWellFormedBy is_name Three (decl_of (line.Task words)) }
         ensures ok { OnOk result
-            (TellsDecl number self.old (decl_of (line.Task words.entry)) (Ok self.new)) }
+            (TellsDecl version number self.old (decl_of (line.Task words.entry)) (Ok self.new)) }
         ensures fault { IfErr result (λ e.
-            TellsDecl number self.old (decl_of (line.Task words.entry)) (Err e)) }
+            TellsDecl version number self.old (decl_of (line.Task words.entry)) (Err e)) }
     {
-        let Some((numbers, steps)) = self.numbers(alloc, words)? else {
+        let Some((numbers, steps)) = self.numbers(alloc, words, version)? else {
             return Err(fault(number, FaultKind::Limit));
         };
         let phasers = phaser_words(alloc, words.body)?;
@@ -124,20 +127,23 @@ impl Draft {
         Ok(())
     }
 
-    /// Declares what a line of the grammar, as line `number`, says.
+    /// Declares what a line of a text of this version, as line `number`, says.
     fn declare(
         &mut self,
         alloc: Global,
         number: u64,
         line: Line<'_, '_>,
+        version: Version,
     ) -> Result<(), GraphRefusal>
         requires { IsWellFormedBy is_name Three (decl_of line) }
-        ensures ok { OnOk result (TellsDecl number self.old (decl_of line.entry) (Ok self.new)) }
-        ensures fault { IfErr result (λ e. TellsDecl number self.old (decl_of line.entry) (Err e)) }
+        ensures ok { OnOk result
+            (TellsDecl version number self.old (decl_of line.entry) (Ok self.new)) }
+        ensures fault { IfErr result (λ e.
+            TellsDecl version number self.old (decl_of line.entry) (Err e)) }
     {
         match line {
-            Line::Phaser(words) => self.declare_phaser(alloc, number, words),
-            Line::Task(words) => self.declare_task(alloc, number, words),
+            Line::Phaser(words) => self.declare_phaser(alloc, number, words, version),
+            Line::Task(words) => self.declare_task(alloc, number, words, version),
         }
     }
 
@@ -160,7 +166,7 @@ impl Draft {
         }
         match line_at(words, version) {
             None => Err(fault(number, FaultKind::Syntax)),
-            Some(declared) => self.declare(alloc, number, declared),
+            Some(declared) => self.declare(alloc, number, declared, version),
         }
     }
 
@@ -230,7 +236,8 @@ fn version_in(known: Option<Version>, words: &[&[u8]]) -> Option<Version>
 /// ```
 ///
 /// One of the third version begins with `graph 3`. It may have all of these, filters that add to
-/// their sums before they shift, delays, which are filters, and decimators.
+/// their sums before they shift, weigh older samples and what they put, and apply a single, with up
+/// to 1,024 taps, delays, which are filters, and decimators.
 ///
 /// ```text
 /// graph 3
@@ -239,7 +246,8 @@ fn version_in(known: Option<Version>, words: &[&[u8]]) -> Option<Version>
 /// fir f X -> Y shift 2 plus 2 taps 1
 /// delay d X -> Y of 1000      task 1, a filter of one tap
 /// decimate e X -> Y every 3   task 2
-/// delay of X -> Y of 2        Fault(GraphFault { line: 7, kind: FaultKind::Syntax })
+/// fir sum X -> Y shift 0 taps 1 again 1 single clamp -9 9     a running sum
+/// delay of X -> Y of 2        Fault(GraphFault { line: 8, kind: FaultKind::Syntax })
 /// ```
 pub fn read_graph(alloc: Global, text: &[u8]) -> Result<Graph, GraphRefusal>
     ensures { Tells (lines_of text.now) result }

@@ -1,25 +1,27 @@
 //! The numbers of a line, where they are within their limits.
-ghost use Rattle.std.specs.Prelude.{◌≡◌, ◌&&◌, [], ◌∷◌, IsTrue, IfSome, IfOk, length, map, if◌then◌else◌, Some, None, is_some, option_map, true, nat_le, unsigned_abs, pos};
+ghost use Rattle.std.specs.Prelude.{◌≡◌, ◌&&◌, [], ◌∷◌, ◌++◌, IsTrue, IfSome, IfOk, length, map, if◌then◌else◌, Some, None, is_some, option_map, true, nat_le, unsigned_abs, pos};
 ghost use Rattle.std.specs.Option.{option_map_or};
 ghost use Rattle.std.specs.Int.Signed.{le_z};
 ghost use Rattle.std.specs.List.{list_all};
 ghost use Rattle.graph_text.specs.Plain.{plain};
 ghost use Rattle.phase_base.specs.Numbers.{is_nat, is_int, nat_value, int_value};
-ghost use Rattle.graph_text.specs.Decls.{IsFunction, IsBody, AreEnds, IsBy, may_have_parent};
+ghost use Rattle.graph_text.specs.Decls.{IsFunction, IsFilter, IsBody, AreEnds, IsBy, may_have_parent};
 ghost use Rattle.graph_text.specs.declared.version.Version.TheVariants.{Three};
 ghost use Rattle.stream_filters.specs.Filter.{no_form};
 ghost use Rattle.stream_filters.specs.declared.fir.TheConstants.{DELAY_MAX};
-ghost use Rattle.graph_text.specs.Lines.{single_of as function_words, function_of, body_of, ends_of, by_of, word_of};
-ghost use Rattle.graph_lang.specs.WordValues.{single_of, phaser_line, taps_of, plus_of, filter_form, factor_of, block_of};
+ghost use Rattle.graph_text.specs.Lines.{single_of as function_words, function_of, filter_of, body_of, ends_of, by_of, word_of};
+ghost use Rattle.graph_lang.specs.WordValues.{single_of, phaser_line, taps_of, plus_of, age_of, form_in, filter_form, factor_of, block_of};
 ghost use Rattle.graph_lang.specs.Reading.{AreNumbersOf, steps_in};
-ghost use Rattle.graph_lang.specs.Faults.{is_function_within, is_bound_within, is_body_within, is_tap_within, is_plus_within, is_number_of_ends, is_count_within, are_ends_within, is_phaser_within};
+ghost use Rattle.graph_lang.specs.Faults.{is_function_within, is_bound_within, is_body_within, is_tap_within, is_plus_within, most_taps, is_form_within, is_filter_within, is_number_of_ends, is_count_within, are_ends_within, is_phaser_within};
 
 use graph_base::{ENDS_MAX, EVERY_MAX, FACTOR_MAX, PhaserLine, STEPS_MAX};
-use graph_text::{Body, Ends, Function, PhaserWords, int_within, nat_within};
+use graph_text::{Body, Ends, Filter, Function, PhaserWords, Version, int_within, nat_within};
 use phase_accum::{MAGNITUDE_MAX, Single};
 use phase_base::BOUND_MAX;
 use std::alloc::{AllocError, Global};
-use stream_filters::{DELAY_MAX, FEW_TAPS_MAX, Form, PLUS_MAX, SHIFT_MAX, TAP_MAX};
+use stream_filters::{
+    AGAIN_MAX, DELAY_MAX, FEW_TAPS_MAX, Form, PLUS_MAX, SHIFT_MAX, TAP_MAX, TAPS_MAX,
+};
 
 // ---- phasers
 
@@ -41,7 +43,8 @@ pub(crate) fn single_of(function: Function<'_>) -> Option<Single>
     }
 }
 
-/// The single of a phaser, where it has one whose numbers are within their limits, or none.
+/// The single of a phaser or a filter, where it has one whose numbers are within their limits, or
+/// none.
 fn single_in(single: Option<Function<'_>>) -> Option<Option<Single>>
     requires { IfSome (function_words single) IsFunction }
     ensures { result ≡ (if option_map_or is_function_within (function_words single.entry) true
@@ -150,25 +153,69 @@ fn plus_of(word: Option<&[u8]>) -> Option<i64>
     }
 }
 
-/// The form that a filter's words write, where each number is within its limit.
-fn form_of(shift: &[u8], plus: Option<&[u8]>) -> Option<Form>
-    requires shift { IsTrue (is_nat shift.now) }
-    requires plus { IfSome (word_of plus) (λ word. IsTrue (is_int word)) }
-    ensures { result
-        ≡ (if nat_le (nat_value shift.now) SHIFT_MAX && is_plus_within (word_of plus.entry)
-        then Some (record no_form {
-          shift = nat_value shift.now;
-          plus = plus_of (word_of plus.entry);
-        })
-        else None) }
+/// How many samples before the newest one a word writes, or 0 where there is none, where they are
+/// within their limit.
+fn age_of(word: Option<&[u8]>) -> Option<usize>
+    requires { IfSome (word_of word) (λ word. IsTrue (is_nat word)) }
+    ensures { result ≡ (if nat_le (age_of (word_of word.entry)) DELAY_MAX
+        then Some (age_of (word_of word.entry)) else None) }
 {
+    match word {
+        None => Some(0),
+        Some(steps) => Some(nat_within(steps, DELAY_MAX as u64)? as usize),
+    }
+}
+
+/// The form that a filter's words write, where each number, and how many taps it has for what it
+/// put, is within its limit.
+fn form_in(words: Filter<'_, '_>) -> Option<Form>
+    requires { IsFilter Three (filter_of words) }
+    ensures { result ≡ (if is_form_within (filter_of words.entry)
+        then Some (form_in (filter_of words.entry)) else None) }
+{
+    let shift = shift_of(words.shift)?;
+    let plus = plus_of(words.plus)?;
+    let delay = age_of(words.delay)?;
+    if words.again.len() > AGAIN_MAX {
+        return None;
+    }
     Some(Form {
-        shift: shift_of(shift)?,
-        plus: plus_of(plus)?,
-        delay: 0,
-        again: 0,
-        single: None,
+        shift,
+        plus,
+        delay,
+        again: words.again.len(),
+        single: single_in(words.single)?,
     })
+}
+
+/// The most taps for samples of a filter in a text of this version.
+fn most_taps(version: Version) -> usize
+    ensures { result ≡ most_taps version }
+{
+    match version {
+        Version::One | Version::Two => FEW_TAPS_MAX,
+        Version::Three => TAPS_MAX,
+    }
+}
+
+/// The taps that words write for samples, and those behind them for what a filter puts, where each
+/// is within its limit.
+fn all_taps(alloc: Global, words: &[&[u8]], again: &[&[u8]]) -> Result<Option<Vec<i64>>, AllocError>
+    requires taps { IsTrue (list_all is_int (plain words.now)) }
+    requires again { IsTrue (list_all is_int (plain again.now)) }
+    ensures within { IfOk result (λ found. is_some found
+        ≡ (list_all is_tap_within (plain words.now) && list_all is_tap_within (plain again.now))) }
+    ensures taps { IfOk result (λ found. IfSome found (λ taps.
+        taps.items ≡ map int_value (plain words.now ++ plain again.now))) }
+{
+    let Some(mut taps) = taps_of(alloc, words)? else {
+        return Ok(None);
+    };
+    let Some(again) = taps_of(alloc, again)? else {
+        return Ok(None);
+    };
+    taps.extend_from_slice(&again)?;
+    Ok(Some(taps))
 }
 
 /// The factor that a word writes, where it is within its limit.
@@ -187,33 +234,29 @@ fn is_number_of_ends(count: usize) -> bool
     2 <= count && count <= ENDS_MAX
 }
 
-/// The numbers of a filter, where each, and how many taps there are, is within its limit.
+/// The numbers of a filter, where each, and how many taps there are, is within its limit in a text
+/// of this version.
 fn filter_numbers(
     alloc: Global,
-    shift: &[u8],
-    plus: Option<&[u8]>,
-    taps: &[&[u8]],
+    words: Filter<'_, '_>,
+    version: Version,
 ) -> Result<Option<Numbers>, AllocError>
-    requires shift { IsTrue (is_nat shift.now) }
-    requires plus { IfSome (word_of plus) (λ word. IsTrue (is_int word)) }
-    requires taps { IsTrue (list_all is_int (plain taps.now)) }
-    ensures within { IfOk result (λ found. is_some found
-        ≡ (nat_le (nat_value shift.now) SHIFT_MAX && is_plus_within (word_of plus.entry)
-        && nat_le (length taps.now) FEW_TAPS_MAX && list_all is_tap_within (plain taps.now))) }
+    requires { IsFilter Three (filter_of words) }
+    ensures within { IfOk result (λ found.
+        is_some found ≡ is_filter_within version (filter_of words.entry)) }
     ensures numbers { IfOk result (λ found. IfSome found (λ numbers.
-        (numbers.taps.items ≡ map int_value (plain taps.now))
-        × (numbers.form ≡ record no_form {
-          shift = nat_value shift.now;
-          plus = plus_of (word_of plus.entry);
-        }) × (numbers.factor ≡ pos 0) × (numbers.every ≡ 1))) }
+        (numbers.taps.items
+        ≡ map int_value (plain words.entry.taps.now ++ plain words.entry.again.now))
+        × (numbers.form ≡ form_in (filter_of words.entry))
+        × (numbers.factor ≡ pos 0) × (numbers.every ≡ 1))) }
 {
-    let Some(form) = form_of(shift, plus) else {
+    let Some(form) = form_in(words) else {
         return Ok(None);
     };
-    if taps.len() > FEW_TAPS_MAX {
+    if words.taps.len() > most_taps(version) {
         return Ok(None);
     }
-    match taps_of(alloc, taps)? {
+    match all_taps(alloc, words.taps, words.again)? {
         None => Ok(None),
         Some(taps) => Ok(Some(Numbers {
             taps,
@@ -289,15 +332,21 @@ fn decimator_numbers(alloc: Global, every: &[u8]) -> Option<Numbers>
     Some(numbers_with(alloc, 0, every))
 }
 
-/// The numbers of what a task does, where each, and how many ends it has, is within its limits.
-pub(crate) fn numbers_of(alloc: Global, body: Body<'_, '_>) -> Result<Option<Numbers>, AllocError>
+/// The numbers of what a task does, where each, and how many ends it has, is within its limits in a
+/// text of this version.
+pub(crate) fn numbers_of(
+    alloc: Global,
+    body: Body<'_, '_>,
+    version: Version,
+) -> Result<Option<Numbers>, AllocError>
     requires { IsBody Three (body_of body) }
-    ensures within { IfOk result (λ found. is_some found ≡ is_body_within (body_of body.entry)) }
+    ensures within { IfOk result (λ found.
+        is_some found ≡ is_body_within version (body_of body.entry)) }
     ensures numbers { IfOk result (λ found. IfSome found (λ numbers.
         AreNumbersOf numbers (body_of body.entry))) }
 {
     let factor = match body {
-        Body::Fir(_, _, shift, plus, taps) => return filter_numbers(alloc, shift, plus, taps),
+        Body::Fir(_, _, words) => return filter_numbers(alloc, words, version),
         Body::Delay(_, _, steps) => return delay_numbers(alloc, steps),
         Body::Decimate(_, _, every) => return Ok(decimator_numbers(alloc, every)),
         Body::Split(_, outputs) if !is_number_of_ends(outputs.len()) => None,

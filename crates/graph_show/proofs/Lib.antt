@@ -1,3 +1,4 @@
+pub mod Examples
 pub mod Growing
 mod Lines
 mod WholeNodes

@@ -2,6 +2,7 @@
 use Rattle.std.proofs.Common.{◌≡◌, ◌<◌, ◌+◌, ◌-◌, ◌∙◌, ℕ, List, Bor, length, map, get_or, Some, ap, sym, refl}
 use Rattle.std.specs.List.{slice_get, slice_split}
 use Rattle.std.proofs.lemmas.Option.{slice_get-get_or, slice_get-map}
+use Rattle.graph_lang.specs.Reads.{version_of}
 use Rattle.graph_lang.specs.declared.fault.GraphFault.{GraphFault}
 use Rattle.graph_text.specs.Texts.{is_line_feed, lines_of}
 use Rattle.phase_base.specs.Lists.{without_cr}
@@ -26,7 +27,7 @@ pub explains-line : (text : List ℕ) (found : GraphFault) (pieces : List (Bor (
     → map (λ x. x.now) pieces ≡ slice_split is_line_feed text
     → found.line - 1 < length pieces → found.line - 1 + 1 ≡ found.line
     → piece ≡ get_or pieces (found.line - 1) piece → line ≡ without_cr piece.now
-    → ExplainsKind found.kind line more → ExplainsLine text found more
+    → ExplainsKind (version_of (lines_of text)) found.kind line more → ExplainsLine text found more
 explains-line text found pieces piece line more cut within counted piece_is line_is told = record {
   index = found.line - 1;
   line = line;

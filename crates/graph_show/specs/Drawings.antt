@@ -1,5 +1,6 @@
 -- The drawing of a graph, as text for Graphviz.
-use Rattle.std.specs.Prelude.{ℕ, ℤ, ◌==◌, ◌||◌, nat_lt, unsigned_abs, Bool, if◌then◌else◌, List, [], ◌∷◌, ◌++◌, length, Option, None, Some, codes, decimal}
+use Rattle.std.specs.Prelude.{ℕ, ℤ, pos, ◌==◌, ◌&&◌, ◌||◌, not, nat_lt, unsigned_abs, Bool, false, if◌then◌else◌, List, [], ◌∷◌, ◌++◌, length, Option, None, Some, is_some, codes, decimal}
+use Rattle.std.specs.Ordering.{int_eq}
 use Rattle.std.specs.Fmt.{signed_decimal}
 use Rattle.std.specs.List.{concat, flat_map, range_with_len}
 use Rattle.phase_base.specs.OperationWords.{operation_word}
@@ -10,6 +11,7 @@ use Rattle.graph_base.specs.Registrations.{signalled_by}
 use Rattle.graph_base.specs.declared.line.Kind.{Kind}
 use Rattle.graph_base.specs.declared.line.Kind.TheVariants.{Source, Fir, Split, Decimate, Join, Peer, Sink}
 use Rattle.graph_base.specs.declared.line.Parent.{Parent}
+use Rattle.stream_filters.specs.Filter.{taps_ahead, taps_again}
 use Rattle.stream_filters.specs.declared.form.Form.{Form}
 use Rattle.graph_base.specs.declared.line.PhaserLine.{PhaserLine}
 use Rattle.graph_base.specs.declared.place.Place.TheVariants as place
@@ -24,13 +26,21 @@ kind_word Join = codes "join"
 kind_word Peer = codes "peer"
 kind_word Sink = codes "sink"
 
--- a filter of this form is told as a delay
-abbrev pub is_delay : Form → Bool
-is_delay form = nat_lt 0 form.delay
+-- whether these taps copy a sample
+abbrev pub are_copy : List ℤ → Bool
+are_copy [] = false
+are_copy (tap ∷ []) = int_eq tap (pos 1)
+are_copy (tap ∷ other ∷ taps) = false
+
+-- whether a filter is told as a delay: it copies a sample that is not the newest, and does no more
+abbrev pub is_delay : Form → List ℤ → Bool
+is_delay form taps =
+    nat_lt 0 form.delay && form.shift == 0 && unsigned_abs form.plus == 0 && form.again == 0
+    && not (is_some form.single) && are_copy taps
 
 -- the first word of the line of a task
 abbrev pub task_word : Task → List ℕ
-task_word task = if is_delay task.form then codes "delay" else kind_word task.kind
+task_word task = if is_delay task.form task.taps then codes "delay" else kind_word task.kind
 
 -- ---- nodes
 
@@ -54,7 +64,7 @@ clamp_ends single.Abs = None
 clamp_ends single.Halve = None
 clamp_ends (single.Clamp range) = Some range
 
--- the single of a phaser, by its word
+-- a single, by its word
 abbrev pub single_note : Option Single → List ℕ
 single_note None = []
 single_note (Some single.Neg) = note (codes "neg")
@@ -80,16 +90,31 @@ tap_text tap = codes " " ++ signed_decimal tap
 abbrev pub plus_note : ℤ → List ℕ
 plus_note plus = if unsigned_abs plus == 0 then [] else note (codes "plus " ++ signed_decimal plus)
 
--- the shift of a filter, what it adds, and its taps
+-- how many samples before the newest one a filter weighs, where there are some
+abbrev pub age_note : ℕ → List ℕ
+age_note delay = if delay == 0 then [] else note (codes "of " ++ decimal delay)
+
+-- the shift of a filter, what it adds, and its taps for samples
 abbrev pub taps_note : Form → List ℤ → List ℕ
 taps_note form taps =
     note (codes "shift " ++ decimal form.shift)
     ++ (plus_note form.plus ++ (note (codes "taps") ++ flat_map tap_text taps))
 
--- the steps of a delay, or what a filter does
+-- the taps of a filter for what it put, where there are some
+abbrev pub again_note : List ℤ → List ℕ
+again_note [] = []
+again_note (tap ∷ taps) = note (codes "again") ++ flat_map tap_text (tap ∷ taps)
+
+-- what a filter does beside that, which of a delay is nothing
+abbrev pub more_note : Form → List ℤ → List ℕ
+more_note form taps =
+    if is_delay form taps then []
+    else taps_note form (taps_ahead taps form)
+    ++ (again_note (taps_again taps form) ++ single_note form.single)
+
+-- what a filter does
 abbrev pub filter_note : Form → List ℤ → List ℕ
-filter_note form taps =
-    if is_delay form then note (codes "of " ++ decimal form.delay) else taps_note form taps
+filter_note form taps = age_note form.delay ++ more_note form taps
 
 -- of how many values a decimator puts one
 abbrev pub every_note : ℕ → List ℕ

@@ -2,9 +2,11 @@
 -- of it, and what was expected there.
 use Rattle.std.specs.Prelude.{◌≡◌, ◌⊎◌, ◌<◌, ◌≤◌, ◌+◌, ◌==◌, ℕ, List, [], ◌∷◌, ◌++◌, length, map, take, replicate, codes, Some, if◌then◌else◌, slice_get}
 use Rattle.std.specs.List.{concat}
+use Rattle.graph_lang.specs.Reads.{version_of}
 use Rattle.graph_lang.specs.declared.fault.FaultKind.{FaultKind}
 use Rattle.graph_lang.specs.declared.fault.GraphFault.{GraphFault}
 use Rattle.graph_text.specs.Texts.{is_printable, lines_of}
+use Rattle.graph_text.specs.declared.version.Version.{Version}
 use Rattle.graph_show.specs.Forms.{form_told}
 
 -- a byte as it is shown: one that no line may have is a question mark
@@ -30,12 +32,12 @@ pub record Marks (line more : List ℕ) : Type 0 where
   pub inside : start ≤ length line
   pub is : more ≡ marked_text line start count wanted
 
--- it does, and where the fault of this kind is one of the grammar, the form of such a line stands
--- behind that
-pub record ExplainsKind (kind : FaultKind) (line more : List ℕ) : Type 0 where
+-- it does, and where the fault of this kind is one of the grammar, the form of such a line in a
+-- text of this version stands behind that
+pub record ExplainsKind (version : Version) (kind : FaultKind) (line more : List ℕ) : Type 0 where
   pub front : List ℕ
   pub marks : Marks line front
-  pub is : more ≡ front ++ form_told kind line
+  pub is : more ≡ front ++ form_told version kind line
 
 -- the text explains this fault of a graph's text, by the line of the fault
 pub record ExplainsLine (text : List ℕ) (found : GraphFault) (more : List ℕ) : Type 0 where
@@ -43,7 +45,7 @@ pub record ExplainsLine (text : List ℕ) (found : GraphFault) (more : List ℕ)
   pub line : List ℕ
   pub numbered : index + 1 ≡ found.line
   pub line_is : slice_get (lines_of text) index ≡ Some line
-  pub explains : ExplainsKind found.kind line more
+  pub explains : ExplainsKind (version_of (lines_of text)) found.kind line more
 
 -- the text explains this fault, or is nothing where the graph's text has no line of that number
 abbrev pub ExplainsFault : List ℕ → GraphFault → List ℕ → Type 0

@@ -37,7 +37,9 @@ pub(crate) enum Part {
     /// What a filter adds.
     Plus,
     Taps,
-    /// The steps of a delay.
+    /// The taps of a filter for what it put.
+    Again,
+    /// The steps of a delay, and how many samples before the newest one a filter weighs.
     Delay,
     /// Of how many values a decimator puts one.
     Every,
@@ -107,7 +109,8 @@ impl Part {
             Part::Function => is_function(word),
             Part::Bound | Part::Shift | Part::Delay | Part::Every | Part::Steps => is_nat(word),
             Part::Block => is_block(word),
-            Part::Low | Part::High | Part::Plus | Part::Taps | Part::Factor => is_int(word),
+            Part::Low | Part::High | Part::Plus | Part::Factor => is_int(word),
+            Part::Taps | Part::Again => is_int(word),
             Part::Sign(sign) => word == sign.as_bytes(),
             Part::End(_) => false,
         }
@@ -115,7 +118,10 @@ impl Part {
 
     /// Whether more words may stand there.
     pub(crate) fn is_repeated(self) -> bool {
-        matches!(self, Part::Inputs | Part::Outputs | Part::Taps)
+        matches!(
+            self,
+            Part::Inputs | Part::Outputs | Part::Taps | Part::Again
+        )
     }
 
     /// Whether a phaser stands there that the task waits for.
@@ -162,7 +168,8 @@ impl Part {
                 "a whole number without a sign"
             }
             Part::Block => "`block=` and, without a space, a whole number without a sign",
-            Part::Low | Part::High | Part::Plus | Part::Taps | Part::Factor => "a whole number",
+            Part::Low | Part::High | Part::Plus | Part::Factor => "a whole number",
+            Part::Taps | Part::Again => "a whole number",
             Part::Sign(sign) => sign,
             Part::End(wanted) => wanted,
             _ => A_NAME,
@@ -210,10 +217,10 @@ impl Part {
                 Some(kind) => Wanted::with_word("`", kind, b"".as_slice(), "`, in small letters"),
                 None => Wanted::text(self.told()),
             },
-            Part::Taps if word.contains(&b'.') => {
+            Part::Taps | Part::Again if word.contains(&b'.') => {
                 Wanted::text("a whole number: a fraction times 2^S and rounded, with `shift S`")
             }
-            Part::Taps if word.contains(&b',') => {
+            Part::Taps | Part::Again if word.contains(&b',') => {
                 Wanted::text("a whole number, and between two of them a space and no comma")
             }
             _ => Wanted::text(self.told()),

@@ -10,8 +10,9 @@ use crate::grammar::Reading;
 use crate::mark::{Mark, mark_of};
 use crate::meeting_place::MeetingPlace;
 use crate::parts::put;
+use crate::version::version_of;
 use graph_lang::{FaultKind, GraphFault};
-use graph_text::{are_printable, lines_of, without_cr, words_of};
+use graph_text::{Version, are_printable, lines_of, without_cr, words_of};
 use itoa::Buffer;
 use std::alloc::{AllocError, Global};
 
@@ -164,8 +165,8 @@ fn line_marked<'a>(
     marked(alloc, line, start_of(line, mark.word), count, &wanted)
 }
 
-/// Explains a fault of a line, as `line_marked` marks it, and tells the form of such a line where
-/// that one is not in the grammar.
+/// Explains a fault of a line, as `line_marked` marks it, and tells the form of such a line in a
+/// text of this version where that one is not in the grammar.
 fn line_explained<'a>(
     alloc: Global,
     above: &[&'a [u8]],
@@ -173,18 +174,19 @@ fn line_explained<'a>(
     line: &'a [u8],
     kind: FaultKind,
     meeting: Option<MeetingPlace<'a>>,
+    version: Version,
 ) -> Result<Vec<u8>, AllocError>
-    ensures { IfOk result (λ text. ExplainsKind kind line.now text.items) }
+    ensures { IfOk result (λ text. ExplainsKind version kind line.now text.items) }
 {
     let mut text = line_marked(alloc, above, below, line, kind, meeting)?;
-    put_form(alloc, &mut text, line, kind)?;
+    put_form(alloc, &mut text, line, kind, version)?;
     Ok(text)
 }
 
 /// Explains the first fault of a graph's text: gives the faulty line, a mark under the word that is
 /// at fault, and what was expected there, a line each; and where the line is not in the grammar,
-/// the form of a line that begins as it does. Where the text has no line of that number, it gives
-/// nothing. It takes memory.
+/// the form of a line that begins as it does, in a text of that version. Where the text has no line
+/// of that number, it gives nothing. It takes memory.
 ///
 /// Where tasks meet on a phaser with `any`, the text alone does not tell on which of several
 /// outputs; `meeting` tells where, if it is known. Else the task is marked.
@@ -218,5 +220,6 @@ pub fn explanation(
         without_cr(lines[index]),
         fault.kind,
         meeting,
+        version_of(alloc, &lines)?,
     )
 }

@@ -25,6 +25,11 @@ fn may_have_parent(kind: &[u8]) -> bool {
         || kind == b"sink".as_slice()
 }
 
+/// Whether the word may stand behind the taps of a filter in a text of the third version alone.
+fn is_behind_tap(word: &[u8]) -> bool {
+    word == b"again".as_slice() || word == b"single".as_slice()
+}
+
 impl<'w, 'a> Reading<'w, 'a> {
     /// Reads the words of a line, where this version of its text is known from the lines above.
     pub(crate) fn of(
@@ -92,7 +97,7 @@ impl<'w, 'a> Reading<'w, 'a> {
         }
         if kind == b"fir".as_slice() {
             let ends = self.follow(&[Part::Own, Part::Input, arrow, Part::Output])?;
-            return Ok(ends && self.follow_taps()?);
+            return Ok(ends && self.follow_filter()?);
         }
         if kind == b"delay".as_slice() {
             let ends = self.follow(&[Part::Own, Part::Input, arrow, Part::Output])?;
@@ -110,11 +115,48 @@ impl<'w, 'a> Reading<'w, 'a> {
     }
 
     /// Reads the numbers of a filter.
-    fn follow_taps(&mut self) -> Result<bool, AllocError> {
-        if !self.follow(&[Part::Sign("shift"), Part::Shift])? || !self.follow_plus()? {
+    fn follow_filter(&mut self) -> Result<bool, AllocError> {
+        if !self.follow_age()? || !self.follow(&[Part::Sign("shift"), Part::Shift])? {
             return Ok(false);
         }
-        self.follow(&[Part::Sign("taps"), Part::Taps])
+        if !self.follow_plus()? || !self.follow(&[Part::Sign("taps"), Part::Taps])? {
+            return Ok(false);
+        }
+        if !self.is_of_three() {
+            return Ok(true);
+        }
+        Ok(self.follow_again()? && self.follow_single()?)
+    }
+
+    /// Reads from how far back a filter weighs, where that is said in a text of the third version.
+    fn follow_age(&mut self) -> Result<bool, AllocError> {
+        if !self.is_of_three() || Part::Sign("shift").fits(self.next()) {
+            return Ok(true);
+        }
+        if Part::Sign("of").fits(self.next()) {
+            return self.follow(&[Part::Sign("of"), Part::Delay]);
+        }
+        self.wanted = Part::End("`of` or `shift`");
+        Ok(false)
+    }
+
+    /// Reads the taps for what a filter put, where there are some.
+    fn follow_again(&mut self) -> Result<bool, AllocError> {
+        if Part::Sign("again").fits(self.next()) {
+            return self.follow(&[Part::Sign("again"), Part::Again]);
+        }
+        Ok(true)
+    }
+
+    /// Reads a single, where there is one.
+    fn follow_single(&mut self) -> Result<bool, AllocError> {
+        if !Part::Sign("single").fits(self.next()) {
+            return Ok(true);
+        }
+        if !self.follow(&[Part::Sign("single"), Part::Function])? {
+            return Ok(false);
+        }
+        Ok(!self.is_behind(b"clamp") || self.follow(&[Part::Low, Part::High])?)
     }
 
     /// Reads what a filter adds, where it adds something in a text of the third version.
@@ -150,16 +192,9 @@ impl<'w, 'a> Reading<'w, 'a> {
     /// Reads the optional end of a phaser's line.
     fn read_single(&mut self) -> Result<(), AllocError> {
         self.wanted = Part::End("`single`, or the end of the line");
-        if !Part::Sign("single").fits(self.next()) {
-            return Ok(());
+        if Part::Sign("single").fits(self.next()) && self.follow_single()? {
+            self.wanted = Part::End("the end of the line");
         }
-        if !self.follow(&[Part::Sign("single"), Part::Function])? {
-            return Ok(());
-        }
-        if self.is_behind(b"clamp") && !self.follow(&[Part::Low, Part::High])? {
-            return Ok(());
-        }
-        self.wanted = Part::End("the end of the line");
         Ok(())
     }
 
@@ -179,7 +214,17 @@ impl<'w, 'a> Reading<'w, 'a> {
         match self.wanted {
             Part::Kind => word == b"delay".as_slice() || word == b"decimate".as_slice(),
             Part::Sign("taps") => !self.is_of_three() && word == b"plus".as_slice(),
+            Part::Sign("shift") => !self.is_of_three() && word == b"of".as_slice(),
+            Part::End(_) => !self.is_of_three() && self.is_behind_taps() && is_behind_tap(word),
             _ => false,
+        }
+    }
+
+    /// Whether the last word that was read is a tap.
+    fn is_behind_taps(&self) -> bool {
+        match self.found.last() {
+            Some((part, _)) => matches!(*part, Part::Taps),
+            None => false,
         }
     }
 
@@ -220,10 +265,12 @@ impl<'w, 'a> Reading<'w, 'a> {
     /// Reads the optional ends of a task that may have a parent.
     fn read_ends(&mut self, kind: &[u8]) -> Result<(), AllocError> {
         if !Part::Sign("by").fits(self.next()) {
-            return self.read_last(
-                "`by`, `until`, or the end of the line",
-                "`by`, `until`, `block=`, or the end of the line",
-            );
+            let later = if self.is_behind_taps() && self.is_of_three() {
+                "`again`, `single`, `by`, `until`, `block=`, or the end of the line"
+            } else {
+                "`by`, `until`, `block=`, or the end of the line"
+            };
+            return self.read_last("`by`, `until`, or the end of the line", later);
         }
         let by = [
             Part::Sign("by"),

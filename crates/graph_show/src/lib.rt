@@ -1,7 +1,7 @@
 //! A graph and its faults, for people: its drawing, and what explains a fault of its text.
 //!
 //! The drawing is text for Graphviz: phasers as ellipses with their operation, bound and single,
-//! tasks as boxes with their kind and what their line says of file, shift and taps, factor,
+//! tasks as boxes with their kind and what their line says of file, of a filter's numbers, factor,
 //! `until`, `now` and block, an arrow for each wait and each signal, and parents dashed to their
 //! children. `write_drawing` writes it; `drawing_text` gives it as bytes.
 //!
@@ -28,6 +28,7 @@ mod names;
 mod nodes;
 mod notes;
 mod parts;
+mod version;
 mod wanted;
 
 pub use drawing::{drawing_text, write_drawing};

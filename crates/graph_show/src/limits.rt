@@ -3,9 +3,10 @@ ghost use Rattle.std.specs.Prelude.{◌<◌, ◌^◌};
 
 use crate::explain_parts::Part;
 use graph_lang::{ENDS_MAX, EVERY_MAX, FACTOR_MAX, STEPS_MAX};
+use graph_text::Version;
 use phase_accum::MAGNITUDE_MAX;
 use phase_base::{BOUND_MAX, nat};
-use stream_filters::{DELAY_MAX, FEW_TAPS_MAX, PLUS_MAX, SHIFT_MAX, TAP_MAX};
+use stream_filters::{AGAIN_MAX, DELAY_MAX, FEW_TAPS_MAX, PLUS_MAX, SHIFT_MAX, TAP_MAX, TAPS_MAX};
 
 /// The digits of a number, which stand behind `block=` or a minus where that is there.
 fn digits_in(word: &[u8]) -> &[u8] {
@@ -42,7 +43,7 @@ pub(crate) fn limit_passed(part: Part, word: &[u8]) -> Option<&'static str> {
         ),
         Part::Delay => (0, DELAY_MAX as u64, "a delay of at most 65536 steps"),
         Part::Every => (1, EVERY_MAX, "one of 1 to 65536 values"),
-        Part::Taps => (0, TAP_MAX, "a tap of a magnitude of at most 2147483647"),
+        Part::Taps | Part::Again => { (0, TAP_MAX, "a tap of a magnitude of at most 2147483647") }
         Part::Factor => (
             0,
             FACTOR_MAX,
@@ -65,10 +66,23 @@ pub(crate) fn limit_passed(part: Part, word: &[u8]) -> Option<&'static str> {
 }
 
 /// What is wanted of one of several words of a part, by its number and how many they are, where
-/// they are too many or too few.
-pub(crate) fn count_passed(part: Part, number: usize, count: usize) -> Option<&'static str> {
+/// they are too many or too few in a text of this version.
+pub(crate) fn count_passed(
+    part: Part,
+    number: usize,
+    count: usize,
+    version: Version,
+) -> Option<&'static str> {
     match part {
+        Part::Taps if version == Version::Three => {
+            if number >= TAPS_MAX {
+                Some("at most 1024 taps")
+            } else {
+                None
+            }
+        }
         Part::Taps if number >= FEW_TAPS_MAX => Some("at most 64 taps"),
+        Part::Again if number >= AGAIN_MAX => Some("at most 64 taps behind `again`"),
         Part::Outputs if number >= ENDS_MAX || count < 2 => Some("2 to 8 outputs"),
         Part::Inputs if number >= ENDS_MAX || count < 2 => Some("2 to 8 inputs"),
         _ => None,

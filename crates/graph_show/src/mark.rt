@@ -9,6 +9,8 @@ use crate::meeting_place::MeetingPlace;
 use crate::wanted::Wanted;
 use graph_lang::FaultKind;
 use graph_text::Version;
+use phase_accum::MAGNITUDE_MAX;
+use phase_base::int;
 use std::alloc::{AllocError, Global};
 
 /// The number of a word of the line, counted from 0, and what was expected in its place.
@@ -41,7 +43,7 @@ pub(crate) fn mark_of<'a>(
     let found = reading.found.as_slice();
     let mark = match kind {
         FaultKind::Syntax => syntax_mark(reading),
-        FaultKind::Limit => limit_mark(found),
+        FaultKind::Limit => limit_mark(found, above.version()),
         FaultKind::Twice => twice_mark(found, above),
         FaultKind::Unknown => return unknown_mark(alloc, found, above, below),
         FaultKind::OutBeforeIn => order_mark(found, above),
@@ -120,28 +122,41 @@ fn count_of(found: &[Known<'_>], part: Part) -> usize {
 }
 
 /// The first number past its limit, or the first of too many or too few words.
-fn limit_mark<'a>(found: &[Known<'a>]) -> Mark<'a> {
+fn limit_mark<'a>(found: &[Known<'a>], version: Version) -> Mark<'a> {
     let mut number = 0usize;
     for word in 0..found.len() {
         let (part, text) = found[word];
         if let Some(wanted) = limit_passed(part, text) {
             return Mark::text(word, wanted);
         }
-        if let Some(wanted) = count_passed(part, number, count_of(found, part)) {
+        if let Some(wanted) = count_passed(part, number, count_of(found, part), version) {
             return Mark::text(word, wanted);
         }
-        if part.is_repeated() {
-            number = number.saturating_add(1);
-        }
+        number = if part.is_repeated() {
+            number.saturating_add(1)
+        } else {
+            0
+        };
     }
     end_mark(found)
 }
 
-/// The high end of a clamp, or the first word of a line for which the graph has no room.
+/// The value of this word, or 0 where it is past the limit of a value.
+fn value_of(word: &[u8]) -> i64 {
+    int(word, MAGNITUDE_MAX).unwrap_or(0)
+}
+
+/// The high end of a clamp that is below the low one, or the first word of a line for which the
+/// graph has no room.
 fn end_mark<'a>(found: &[Known<'a>]) -> Mark<'a> {
+    let mut low = 0;
     for word in 0..found.len() {
-        if let (Part::High, _) = found[word] {
-            return Mark::text(word, "an end that is not below the other");
+        match found[word] {
+            (Part::Low, end) => low = value_of(end),
+            (Part::High, end) if value_of(end) < low => {
+                return Mark::text(word, "an end that is not below the other");
+            }
+            _ => {}
         }
     }
     Mark::text(0, "at most 64 phasers and 64 tasks")

@@ -42,11 +42,11 @@ fn kind_word(kind: Kind) -> &'static str
     }
 }
 
-/// The first word of the line of a task: a filter that looks back is told as a delay.
+/// The first word of the line of a task: a filter that copies an older sample is told as a delay.
 fn task_word(task: &TaskLine) -> &'static str
     ensures { result.now ≡ task_word (task_of task.now) }
 {
-    if is_delay(&task.form) {
+    if is_delay(&task.form, &task.taps) {
         return "delay";
     }
     kind_word(task.kind)

@@ -2,7 +2,7 @@
 ghost use Rattle.std.specs.Prelude.{◌≡◌, ◌++◌, ◌<◌, length, Some, None, OnOk};
 ghost use Rattle.std.specs.List.{flat_map};
 ghost use Rattle.graph_base.specs.Graphs.{task_at};
-ghost use Rattle.graph_show.specs.Drawings.{block_note, clamp_ends, clamp_note, every_note, file_note, filter_note, is_delay, kind_notes, note, now_note, peer_note, plus_note, quoted, single_note, tap_text, taps_note, until_note};
+ghost use Rattle.graph_show.specs.Drawings.{again_note, age_note, are_copy, block_note, clamp_ends, clamp_note, every_note, file_note, filter_note, is_delay, kind_notes, more_note, note, now_note, peer_note, plus_note, quoted, single_note, tap_text, taps_note, until_note};
 
 use crate::parts::put;
 use graph_lang::{Graph, Kind};
@@ -33,7 +33,7 @@ fn ends_of(single: &Single) -> Option<(i64, i64)>
     None
 }
 
-/// Puts the single of a phaser behind the text.
+/// Puts the single of a phaser or a filter behind the text.
 pub(crate) fn put_single_note(text: &mut Vec<u8>, single: Option<Single>) -> Result<(), AllocError>
     ensures ok { OnOk result (text.new.items ≡ text.old.items ++ single_note single) }
 {
@@ -95,11 +95,27 @@ fn put_taps(text: &mut Vec<u8>, taps: &[i64]) -> Result<(), AllocError>
     Ok(())
 }
 
-/// Whether a filter of this form is told as a delay.
-pub(crate) fn is_delay(form: &Form) -> bool
-    ensures { result ≡ is_delay form.now }
+/// Whether these taps copy a sample.
+fn are_copy(taps: &[i64]) -> bool
+    ensures { result ≡ are_copy taps.now }
+{
+    match taps {
+        [tap] => *tap == 1,
+        _ => false,
+    }
+}
+
+/// Whether a filter is told as a delay: it copies a sample that is not the newest, and does no
+/// more.
+pub(crate) fn is_delay(form: &Form, taps: &[i64]) -> bool
+    ensures { result ≡ is_delay form.now taps.now }
 {
     form.delay > 0
+        && form.shift == 0
+        && form.plus == 0
+        && form.again == 0
+        && form.single.is_none()
+        && are_copy(taps)
 }
 
 /// Puts what a filter adds behind the text, where it adds something.
@@ -113,7 +129,19 @@ fn put_plus_note(text: &mut Vec<u8>, plus: i64) -> Result<(), AllocError>
     put(text, ["\\nplus ", buffer.format(plus)].as_slice())
 }
 
-/// Puts the shift of a filter, what it adds, and its taps behind the text.
+/// Puts behind the text how many samples before the newest one a filter weighs, where there are
+/// some.
+fn put_age_note(text: &mut Vec<u8>, delay: usize) -> Result<(), AllocError>
+    ensures ok { OnOk result (text.new.items ≡ text.old.items ++ age_note delay) }
+{
+    if delay == 0 {
+        return Ok(());
+    }
+    let mut buffer = Buffer::new();
+    put(text, ["\\nof ", buffer.format(delay)].as_slice())
+}
+
+/// Puts the shift of a filter, what it adds, and its taps for samples behind the text.
 fn put_taps_note(text: &mut Vec<u8>, form: &Form, taps: &[i64]) -> Result<(), AllocError>
     ensures ok { OnOk result (text.new.items ≡ text.old.items ++ taps_note form.now taps.now) }
 {
@@ -124,15 +152,36 @@ fn put_taps_note(text: &mut Vec<u8>, form: &Form, taps: &[i64]) -> Result<(), Al
     put_taps(text, taps)
 }
 
-/// Puts the steps of a delay, or what a filter does, behind the text.
+/// Puts the taps of a filter for what it put behind the text, where there are some.
+fn put_again_note(text: &mut Vec<u8>, taps: &[i64]) -> Result<(), AllocError>
+    ensures ok { OnOk result (text.new.items ≡ text.old.items ++ again_note taps.now) }
+{
+    if taps.is_empty() {
+        return Ok(());
+    }
+    put(text, ["\\nagain"].as_slice())?;
+    put_taps(text, taps)
+}
+
+/// Puts behind the text what a filter does beside that, which of a delay is nothing.
+fn put_more_note(text: &mut Vec<u8>, form: &Form, taps: &[i64]) -> Result<(), AllocError>
+    ensures ok { OnOk result (text.new.items ≡ text.old.items ++ more_note form.now taps.now) }
+{
+    if is_delay(form, taps) {
+        return Ok(());
+    }
+    let ahead = taps.len().saturating_sub(form.again);
+    put_taps_note(text, form, &taps[..ahead])?;
+    put_again_note(text, &taps[ahead..])?;
+    put_single_note(text, form.single)
+}
+
+/// Puts what a filter does behind the text.
 fn put_filter_note(text: &mut Vec<u8>, form: &Form, taps: &[i64]) -> Result<(), AllocError>
     ensures ok { OnOk result (text.new.items ≡ text.old.items ++ filter_note form.now taps.now) }
 {
-    if !is_delay(form) {
-        return put_taps_note(text, form, taps);
-    }
-    let mut buffer = Buffer::new();
-    put(text, ["\\nof ", buffer.format(form.delay)].as_slice())
+    put_age_note(text, form.delay)?;
+    put_more_note(text, form, taps)
 }
 
 /// Puts of how many values a decimator puts one behind the text.

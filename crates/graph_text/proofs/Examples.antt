@@ -4,10 +4,10 @@ use Rattle.std.specs.List.{list_all, list_any}
 use Rattle.graph_text.specs.Texts.{words_of_line, are_printable, is_ignored}
 use Rattle.phase_base.specs.declared.operation.Op.TheVariants.{Sum}
 use Rattle.phase_base.specs.Numbers.{is_nat, is_int}
-use Rattle.graph_text.specs.Decls.{phaser, task, source, fir, delay, decimate, sink, neg, abs, halve, clamp, EndWords}
+use Rattle.graph_text.specs.Decls.{phaser, task, source, fir, delay, decimate, sink, neg, abs, halve, clamp, EndWords, FilterWords}
 use Rattle.graph_text.specs.Versions.{heading_of}
 use Rattle.graph_text.specs.declared.version.Version.TheVariants.{One, Two, Three}
-use Rattle.graph_text.specs.WordReading.{decl_at, decl_by, phaser_words_at, task_words_at, body_at, source_at, fir_at, plus_at, delay_at, decimate_at, split_at, sink_at, word_at, some_at, after, begins, single_at, operation_at, function_at, function_named, clamp_at, now_at, by_at, until_at, block_number, block_at, ends_at}
+use Rattle.graph_text.specs.WordReading.{decl_at, decl_by, phaser_words_at, task_words_at, body_at, source_at, fir_at, filter_at, signed_at, again_at, applied_at, delay_at, decimate_at, split_at, sink_at, word_at, some_at, after, begins, single_at, operation_at, function_at, function_named, clamp_at, now_at, by_at, until_at, block_number, block_at, ends_at}
 
 -- ---- words
 
@@ -174,12 +174,70 @@ named_now = refl
 
 -- ---- lines of the third version
 
+abbrev only_taps : FilterWords
+only_taps = record {
+  delay = None;
+  shift = codes "2";
+  plus = None;
+  taps = codes "1" ∷ codes "-1" ∷ [];
+  again = [];
+  single = None;
+}
+
 rounded : decl_at Three (words_of_line (codes "fir f X -> Y shift 2 plus 2 taps 1 -1"))
-    ≡ Some (task (codes "f") (fir (codes "X") (codes "Y") (codes "2") (Some (codes "2"))
-    (codes "1" ∷ codes "-1" ∷ [])) no_ends)
-unfolding decl_by task_words_at body_at fir_at plus_at some_at word_at ends_at by_at until_at begins
-    after block_at
+    ≡ Some (task (codes "f") (fir (codes "X") (codes "Y")
+    (record only_taps { plus = Some (codes "2") })) no_ends)
+unfolding decl_by task_words_at body_at fir_at filter_at signed_at again_at applied_at single_at
+    some_at word_at ends_at by_at until_at begins after block_at
 rounded = refl
+
+-- each word of a filter, and ends behind them
+whole : decl_at Three (words_of_line
+    (codes "fir f X -> Y of 3 shift 2 plus 2 taps 1 -1 again 5 -6 single clamp -8 7 until 9"))
+    ≡ Some (task (codes "f") (fir (codes "X") (codes "Y") (record only_taps {
+      delay = Some (codes "3");
+      plus = Some (codes "2");
+      again = codes "5" ∷ codes "-6" ∷ [];
+      single = Some (clamp (codes "-8") (codes "7"));
+    })) (record no_ends { until = Some (codes "9") }))
+unfolding decl_by task_words_at body_at fir_at filter_at signed_at again_at applied_at single_at
+    function_at function_named clamp_at some_at word_at ends_at by_at until_at begins after block_at
+whole = refl
+
+-- in their order alone
+single_first : decl_at Three (words_of_line (codes "fir f X -> Y shift 2 taps 1 single abs again 1"))
+    ≡ None
+unfolding decl_by task_words_at body_at fir_at filter_at signed_at again_at applied_at single_at
+    function_at function_named some_at word_at ends_at by_at until_at begins after block_at
+    block_number
+single_first = refl
+
+-- `again` has a number
+again_alone : decl_at Three (words_of_line (codes "fir f X -> Y shift 2 taps 1 again")) ≡ None
+unfolding decl_by task_words_at body_at fir_at filter_at signed_at again_at some_at word_at begins
+    after
+again_alone = refl
+
+-- a delay takes none of them
+delay_again : decl_at Three (words_of_line (codes "delay d X -> Y of 3 again 1")) ≡ None
+unfolding decl_by task_words_at body_at delay_at word_at ends_at by_at until_at begins after block_at
+    block_number
+delay_again = refl
+
+-- in the second version none of them stands
+again_in_two : decl_at Two (words_of_line (codes "fir f X -> Y shift 2 taps 1 again 1")) ≡ None
+unfolding decl_by task_words_at body_at fir_at filter_at signed_at again_at applied_at some_at word_at
+    ends_at by_at until_at begins after block_at block_number
+again_in_two = refl
+
+single_in_two : decl_at Two (words_of_line (codes "fir f X -> Y shift 2 taps 1 single abs")) ≡ None
+unfolding decl_by task_words_at body_at fir_at filter_at signed_at again_at applied_at some_at word_at
+    ends_at by_at until_at begins after block_at block_number
+single_in_two = refl
+
+of_in_two : decl_at Two (words_of_line (codes "fir f X -> Y of 3 shift 2 taps 1")) ≡ None
+unfolding decl_by task_words_at body_at fir_at filter_at signed_at word_at begins after
+of_in_two = refl
 
 delayed : decl_at Three (words_of_line (codes "delay d X -> Y of 1000"))
     ≡ Some (task (codes "d") (delay (codes "X") (codes "Y") (codes "1000")) no_ends)
@@ -211,7 +269,7 @@ decimated_in_blocks = refl
 
 -- in the second version neither is a line
 rounded_in_two : decl_at Two (words_of_line (codes "fir f X -> Y shift 2 plus 2 taps 1 -1")) ≡ None
-unfolding decl_by task_words_at body_at fir_at plus_at word_at begins after
+unfolding decl_by task_words_at body_at fir_at filter_at signed_at word_at begins after
 rounded_in_two = refl
 
 delayed_in_two : decl_at Two (words_of_line (codes "delay d X -> Y of 1000")) ≡ None
@@ -220,8 +278,8 @@ delayed_in_two = refl
 
 -- what is added stands before the taps
 plus_behind : decl_at Three (words_of_line (codes "fir f X -> Y shift 2 taps 1 plus 2")) ≡ None
-unfolding decl_by task_words_at body_at fir_at plus_at some_at word_at ends_at by_at until_at begins
-    after block_at block_number
+unfolding decl_by task_words_at body_at fir_at filter_at signed_at again_at applied_at single_at
+    some_at word_at ends_at by_at until_at begins after block_at block_number
 plus_behind = refl
 
 -- the words of the third version may be names in the second, and in the third they are none

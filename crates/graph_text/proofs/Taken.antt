@@ -12,11 +12,12 @@ use Rattle.phase_base.specs.OperationWords.{operation_of, operation_word}
 use Rattle.phase_base.specs.declared.operation.Op.{Op}
 use Rattle.phase_base.proofs.OperationWords.{operation-read}
 use Rattle.phase_base.specs.Numbers.{is_nat, is_int}
-use Rattle.graph_text.specs.Decls.{Decl, phaser, task, FunctionWords, neg, abs, halve, ByWords, EndWords, BodyWords, function_words, single_words, now_words, by_words, until_words, block_words, end_words, body_word, body_words, plus_words, IsFunction, IsBody, IsBy, AreEnds, AreSome, may_have_parent, may_join_now, may_have_blocks, Spells}
+use Rattle.graph_text.specs.Decls.{Decl, phaser, task, FunctionWords, neg, abs, halve, ByWords, EndWords, FilterWords, BodyWords, function_words, single_words, now_words, by_words, until_words, block_words, end_words, body_word, body_words, signed_words, again_words, filter_words, IsFunction, AreAgain, IsFilter, IsBody, IsBy, AreEnds, AreSome, may_have_parent, may_join_now, may_have_blocks, Spells}
 use Rattle.graph_text.specs.Versions.{has_third, may_declare}
 use Rattle.graph_text.specs.declared.version.Version.{Version}
 use Rattle.std.proofs.lemmas.Bool.{and_parts}
-use Rattle.graph_text.specs.WordReading.{Found, ◌>>=◌, word_at, after, begins, some_at, operation_at, clamp_at, function_named, function_at, single_at, now_at, by_with, by_at, until_at, block_number, block_at, ends_at, source_at, plus_at, fir_at, delay_at, decimate_at, split_at, join_at, peer_at, sink_at, body_at, phaser_words_at, task_words_at, decl_by, decl_at}
+use Rattle.graph_text.proofs.Spelled.{filter_line}
+use Rattle.graph_text.specs.WordReading.{Found, ◌>>=◌, word_at, after, begins, some_at, operation_at, clamp_at, function_named, function_at, single_at, now_at, by_with, by_at, until_at, block_number, block_at, ends_at, source_at, signed_at, again_at, applied_at, filter_at, fir_at, delay_at, decimate_at, split_at, join_at, peer_at, sink_at, body_at, phaser_words_at, task_words_at, decl_by, decl_at}
 
 -- ---- words
 
@@ -304,58 +305,145 @@ source_takes version ws x e =
       followed f.0.0 file.1 (followed (codes "->") sent output.1),
     )
 
-plus_takes : (allowed : Bool) (ws : List Word) (x : Found (Option Word))
-    → plus_at allowed ws ≡ Some x
-    → IfSome x.0 (λ plus. IsTrue (is_int plus) × IsTrue allowed) × (ws ≡ plus_words x.0 ++ x.1)
-unfolding plus_at
-plus_takes allowed ws x e = at allowed (begins (codes "plus") ws) e
+-- ---- what a filter does
+
+signed_takes : (sign : Word) (test : Word → Bool) (allowed : Bool) (ws : List Word)
+    (x : Found (Option Word)) → signed_at sign test allowed ws ≡ Some x
+    → IfSome x.0 (λ number. IsTrue (test number) × IsTrue allowed)
+    × (ws ≡ signed_words sign x.0 ++ x.1)
+unfolding signed_at
+signed_takes sign test allowed ws x e = at allowed (begins sign ws) e
   where
     P : Bool → Option (Found (Option Word)) → Type 0
-    P may o = IfSome o (λ x. IfSome x.0 (λ c. IsTrue (is_int c) × IsTrue may)
-        × (ws ≡ plus_words x.0 ++ x.1))
+    P may o = IfSome o (λ x. IfSome x.0 (λ n. IsTrue (test n) × IsTrue may)
+        × (ws ≡ signed_words sign x.0 ++ x.1))
 
-    at : (may is_added : Bool) → cond (may && is_added)
-        (after (codes "plus") ws >>= (λ added. word_at is_int added >>= (λ c. Some (Some c.0, c.1))))
+    at : (may is_signed : Bool) → cond (may && is_signed)
+        (after sign ws >>= (λ signed. word_at test signed >>= (λ n. Some (Some n.0, n.1))))
         (Some (None, ws)) ≡ Some x
-        → IfSome x.0 (λ plus. IsTrue (is_int plus) × IsTrue may) × (ws ≡ plus_words x.0 ++ x.1)
+        → IfSome x.0 (λ number. IsTrue (test number) × IsTrue may)
+        × (ws ≡ signed_words sign x.0 ++ x.1)
     at true true found =
-        let a = steps _ (after (codes "plus") ws) x found in
-        let c = steps _ (word_at is_int a.0) x a.2 in
-        let number = word_takes is_int a.0 c.0 c.1 in
-        subst (P true) c.2 (
-          (number.0, refl),
-          followed (codes "plus") (after_takes (codes "plus") ws a.0 a.1) number.1,
-        )
+        let a = steps _ (after sign ws) x found in
+        let n = steps _ (word_at test a.0) x a.2 in
+        let number = word_takes test a.0 n.0 n.1 in
+        subst (P true) n.2
+        ((number.0, refl), followed sign (after_takes sign ws a.0 a.1) number.1)
     at true false found = subst (P true) found (tt, refl)
-    at false added found = subst (P false) found (tt, refl)
+    at false signed found = subst (P false) found (tt, refl)
+
+-- the words spell the taps for what was put, which are there only where that is allowed
+TakesAgain : Version → List Word → Option (Found (List Word)) → Type 0
+TakesAgain version ws o = IfSome o (λ x. AreAgain version x.0 × (ws ≡ again_words x.0 ++ x.1))
+
+again_takes : (version : Version) (ws : List Word) (x : Found (List Word))
+    → again_at (has_third version) ws ≡ Some x → TakesAgain version ws (Some x)
+unfolding again_at TakesAgain
+again_takes version ws x e = at (has_third version) (begins (codes "again") ws) refl e
+  where
+    some : (allowed : Bool) → has_third version ≡ allowed → allowed ≡ true
+        → (named : List Word) → ws ≡ codes "again" ∷ named → (x : Found (List Word))
+        → AreSome is_int x.0 → named ≡ x.0 ++ x.1 → TakesAgain version ws (Some x)
+    some allowed third is named here ([], behind) are spelled = absurd (grind (arith, are.0))
+    some allowed third is named here (tap ∷ taps, behind) are spelled =
+        ((are.1, third ∙ is), followed (codes "again") here spelled)
+
+    at : (may is_named : Bool) → has_third version ≡ may → cond (may && is_named)
+        (after (codes "again") ws >>= (λ named. some_at is_int named))
+        (Some ([], ws)) ≡ Some x → TakesAgain version ws (Some x)
+    at true true third found =
+        let n = steps _ (after (codes "again") ws) x found in
+        let taps = some_takes is_int n.0 x n.2 in
+        some true third refl n.0 (after_takes (codes "again") ws n.0 n.1) x taps.0 taps.1
+    at true false third found = subst (TakesAgain version ws) found (tt, refl)
+    at false named third found = subst (TakesAgain version ws) found (tt, refl)
+
+applied_takes : (allowed : Bool) (ws : List Word) (x : Found (Option FunctionWords))
+    → applied_at allowed ws ≡ Some x
+    → IfSome x.0 (λ single. IsFunction single × IsTrue allowed) × (ws ≡ single_words x.0 ++ x.1)
+unfolding applied_at
+applied_takes true ws x e =
+    let single = single_takes ws x e in
+    (allowed x.0 single.0, single.1)
+  where
+    allowed : (single : Option FunctionWords) → IfSome single IsFunction
+        → IfSome single (λ single. IsFunction single × IsTrue true)
+    allowed None is = tt
+    allowed (Some single) is = (is, refl)
+applied_takes false ws x e =
+    let P : Option (Found (Option FunctionWords)) → Type 0 =
+    λ o. IfSome o (λ x. IfSome x.0 (λ single. IsFunction single × IsTrue false)
+    × (ws ≡ single_words x.0 ++ x.1)) in
+    subst P e (tt, refl)
+
+-- the words spell the filter that was read, before the words that are left
+TakesFilter : Version → List Word → Option (Found FilterWords) → Type 0
+TakesFilter version ws o = IfSome o (λ x.
+    IsFilter version x.0 × (ws ≡ filter_words x.0 ++ x.1))
+
+filter_takes : (version : Version) (ws : List Word) (x : Found FilterWords)
+    → filter_at (has_third version) ws ≡ Some x → TakesFilter version ws (Some x)
+unfolding filter_at TakesFilter TakesAgain
+filter_takes version ws x e =
+    let third = has_third version in
+    let d = steps _ (signed_at (codes "of") is_nat third ws) x e in
+    let m = steps _ (after (codes "shift") d.0.1) x d.2 in
+    let n = steps _ (word_at is_nat m.0) x m.2 in
+    let p = steps _ (signed_at (codes "plus") is_int third n.0.1) x n.2 in
+    let t = steps _ (after (codes "taps") p.0.1) x p.2 in
+    let l = steps _ (some_at is_int t.0) x t.2 in
+    let a = steps _ (again_at third l.0.1) x l.2 in
+    let s = steps _ (applied_at third a.0.1) x a.2 in
+    let delay = signed_takes (codes "of") is_nat third ws d.0 d.1 in
+    let marked = after_takes (codes "shift") d.0.1 m.0 m.1 in
+    let shift = word_takes is_nat m.0 n.0 n.1 in
+    let plus = signed_takes (codes "plus") is_int third n.0.1 p.0 p.1 in
+    let tapped = after_takes (codes "taps") p.0.1 t.0 t.1 in
+    let taps = some_takes is_int t.0 l.0 l.1 in
+    let again = again_takes version l.0.1 a.0 a.1 in
+    let single = applied_takes third a.0.1 s.0 s.1 in
+    let filter : FilterWords = record {
+      delay = d.0.0;
+      shift = n.0.0;
+      plus = p.0.0;
+      taps = l.0.0;
+      again = a.0.0;
+      single = s.0.0;
+    } in
+    let behind = taps.1 ∙ ap (λ ws. l.0.0 ++ ws)
+    (again.1 ∙ ap (λ ws. again_words a.0.0 ++ ws) single.1) in
+    let summed = plus.1 ∙ ap (λ ws. signed_words (codes "plus") p.0.0 ++ ws)
+    (followed (codes "taps") tapped behind) in
+    let line = delay.1 ∙ ap (λ ws. signed_words (codes "of") d.0.0 ++ ws)
+    (followed (codes "shift") marked (followed n.0.0 shift.1 summed)) in
+    subst (TakesFilter version ws) s.2 (
+      record {
+        delay = delay.0;
+        shift = shift.0;
+        plus = plus.0;
+        taps = taps.0;
+        again = again.0;
+        single = single.0;
+      },
+      filter_line filter ws s.0.1 line,
+    )
 
 fir_takes : (version : Version) (ws : List Word) (x : Found BodyWords)
     → fir_at (has_third version) ws ≡ Some x → TakesBody version (codes "fir") ws (Some x)
-unfolding fir_at TakesBody
+unfolding fir_at TakesBody TakesFilter
 fir_takes version ws x e =
     let i = steps _ (word_at is_name ws) x e in
     let s = steps _ (after (codes "->") i.0.1) x i.2 in
     let o = steps _ (word_at is_name s.0) x s.2 in
-    let m = steps _ (after (codes "shift") o.0.1) x o.2 in
-    let n = steps _ (word_at is_nat m.0) x m.2 in
-    let p = steps _ (plus_at (has_third version) n.0.1) x n.2 in
-    let t = steps _ (after (codes "taps") p.0.1) x p.2 in
-    let l = steps _ (some_at is_int t.0) x t.2 in
+    let f = steps _ (filter_at (has_third version) o.0.1) x o.2 in
     let input = word_takes is_name ws i.0 i.1 in
     let sent = after_takes (codes "->") i.0.1 s.0 s.1 in
     let output = word_takes is_name s.0 o.0 o.1 in
-    let marked = after_takes (codes "shift") o.0.1 m.0 m.1 in
-    let shift = word_takes is_nat m.0 n.0 n.1 in
-    let plus = plus_takes (has_third version) n.0.1 p.0 p.1 in
-    let tapped = after_takes (codes "taps") p.0.1 t.0 t.1 in
-    let taps = some_takes is_int t.0 l.0 l.1 in
-    let rest = plus.1 ∙ ap (λ ws. plus_words p.0.0 ++ ws) (followed (codes "taps") tapped taps.1)
-    ∙ sym (append_assoc (plus_words p.0.0) (codes "taps" ∷ l.0.0) l.0.1) in
-    subst (TakesBody version (codes "fir") ws) l.2 (
-      (input.0, output.0, shift.0, plus.0, taps.0),
+    let filter = filter_takes version o.0.1 f.0 f.1 in
+    subst (TakesBody version (codes "fir") ws) f.2 (
+      (input.0, output.0, filter.0),
       refl,
-      followed i.0.0 input.1 (followed (codes "->") sent (followed o.0.0 output.1
-          (followed (codes "shift") marked (followed n.0.0 shift.1 rest)))),
+      followed i.0.0 input.1 (followed (codes "->") sent (followed o.0.0 output.1 filter.1)),
     )
 
 delay_takes : (version : Version) (ws : List Word) (x : Found BodyWords)

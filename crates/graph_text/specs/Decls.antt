@@ -1,6 +1,6 @@
 -- What a line declares, and the one way in which its words spell it. Names, files and numbers stand
 -- as they are written. A text of the second version may have more ends, and one of the third also
--- delays, decimators and filters that add.
+-- delays, decimators and filters that do more than weigh.
 use Rattle.std.specs.Prelude.{ℕ, ◌≡◌, ◌≤◌, Bool, true, false, List, [], ◌∷◌, ◌++◌, length, Option, Some, None, IsTrue, IfSome, codes, if◌then◌else◌}
 use Rattle.std.specs.List.{list_all}
 use Rattle.phase_base.specs.Words.{Word, is_name, is_file}
@@ -33,10 +33,20 @@ pub record EndWords : Type 0 where
   pub until : Option Word
   pub block : Option Word
 
+-- what a filter does: how old the newest sample is that it weighs, the shift, what is added, the
+-- taps, those that weigh what it put, and what is applied to each output
+pub record FilterWords : Type 0 where
+  pub delay : Option Word
+  pub shift : Word
+  pub plus : Option Word
+  pub taps : List Word
+  pub again : List Word
+  pub single : Option FunctionWords
+
 -- what a task does, with its phasers
 pub data BodyWords : Type 0 where
   source : (file output : Word) → BodyWords
-  fir : (input output shift : Word) (plus : Option Word) (taps : List Word) → BodyWords
+  fir : (input output : Word) (filter : FilterWords) → BodyWords
   delay : (input output steps : Word) → BodyWords
   decimate : (input output every : Word) → BodyWords
   split : (input : Word) (outputs : List Word) → BodyWords
@@ -86,15 +96,31 @@ block_words (Some steps) = (codes "block=" ++ steps) ∷ []
 abbrev pub end_words : EndWords → List Word
 end_words ends = by_words ends.by ++ (until_words ends.until ++ block_words ends.block)
 
--- the words of what a filter adds, where there is something
-abbrev pub plus_words : Option Word → List Word
-plus_words None = []
-plus_words (Some plus) = codes "plus" ∷ plus ∷ []
+-- a number behind its sign, where there is one
+abbrev pub signed_words : Word → Option Word → List Word
+signed_words sign None = []
+signed_words sign (Some number) = sign ∷ number ∷ []
+
+-- the taps that weigh what a filter put, where there are some
+abbrev pub again_words : List Word → List Word
+again_words [] = []
+again_words (tap ∷ taps) = codes "again" ∷ tap ∷ taps
+
+-- the words of a filter behind its taps
+abbrev pub behind_taps : FilterWords → List Word
+behind_taps filter = again_words filter.again ++ single_words filter.single
+
+-- the words of a filter behind its phasers
+abbrev pub filter_words : FilterWords → List Word
+filter_words filter =
+    signed_words (codes "of") filter.delay ++ codes "shift" ∷ filter.shift
+    ∷ (signed_words (codes "plus") filter.plus
+    ++ codes "taps" ∷ (filter.taps ++ behind_taps filter))
 
 -- the first word of the line
 abbrev pub body_word : BodyWords → Word
 body_word (source file output) = codes "source"
-body_word (fir input output shift plus taps) = codes "fir"
+body_word (fir input output filter) = codes "fir"
 body_word (delay input output steps) = codes "delay"
 body_word (decimate input output every) = codes "decimate"
 body_word (split input outputs) = codes "split"
@@ -105,8 +131,8 @@ body_word (sink input) = codes "sink"
 -- the words between the name and the ends
 abbrev pub body_words : BodyWords → List Word
 body_words (source file output) = file ∷ codes "->" ∷ output ∷ []
-body_words (fir input output shift plus taps) =
-    input ∷ codes "->" ∷ output ∷ codes "shift" ∷ shift ∷ (plus_words plus ++ codes "taps" ∷ taps)
+body_words (fir input output filter) =
+    input ∷ codes "->" ∷ output ∷ filter_words filter
 body_words (delay input output steps) =
     input ∷ codes "->" ∷ output ∷ codes "of" ∷ steps ∷ []
 body_words (decimate input output every) =
@@ -135,7 +161,7 @@ IsFunction (clamp low high) = IsTrue (is_int low) × IsTrue (is_int high)
 -- whether a line of the kind may name a parent
 abbrev pub may_have_parent : BodyWords → Bool
 may_have_parent (source file output) = true
-may_have_parent (fir input output shift plus taps) = true
+may_have_parent (fir input output filter) = true
 may_have_parent (delay input output steps) = true
 may_have_parent (decimate input output every) = false
 may_have_parent (split input outputs) = false
@@ -147,13 +173,26 @@ may_have_parent (sink input) = true
 abbrev pub AreSome : (Word → Bool) → List Word → Type 0
 AreSome test words = (1 ≤ length words) × IsTrue (list_all test words)
 
+-- where there are taps for what a filter put, they are numbers, on a line of the third version
+abbrev pub AreAgain : Version → List Word → Type 0
+AreAgain version [] = Unit {0}
+AreAgain version (tap ∷ taps) =
+    IsTrue (list_all is_int (tap ∷ taps)) × IsTrue (has_third version)
+
+-- the numbers of a filter are such, on a line of this version
+pub record IsFilter (version : Version) (filter : FilterWords) : Type 0 where
+  pub delay : IfSome filter.delay (λ steps. IsTrue (is_nat steps) × IsTrue (has_third version))
+  pub shift : IsTrue (is_nat filter.shift)
+  pub plus : IfSome filter.plus (λ plus. IsTrue (is_int plus) × IsTrue (has_third version))
+  pub taps : AreSome is_int filter.taps
+  pub again : AreAgain version filter.again
+  pub single : IfSome filter.single (λ single. IsFunction single × IsTrue (has_third version))
+
 -- the names, files and numbers of what a task does are such, on a line of this version
 abbrev pub IsBody : Version → BodyWords → Type 0
 IsBody version (source file output) = IsTrue (is_file file) × IsTrue (is_name output)
-IsBody version (fir input output shift plus taps) = IsTrue (is_name input)
-    × IsTrue (is_name output) × IsTrue (is_nat shift)
-    × IfSome plus (λ plus. IsTrue (is_int plus) × IsTrue (has_third version))
-    × AreSome is_int taps
+IsBody version (fir input output filter) =
+    IsTrue (is_name input) × IsTrue (is_name output) × IsFilter version filter
 IsBody version (delay input output steps) = IsTrue (is_name input) × IsTrue (is_name output)
     × IsTrue (is_nat steps) × IsTrue (has_third version)
 IsBody version (decimate input output every) = IsTrue (is_name input) × IsTrue (is_name output)
@@ -167,7 +206,7 @@ IsBody version (sink input) = IsTrue (is_name input)
 -- whether a line of this version, of this kind, may say that its task joins now
 abbrev pub may_join_now : Version → BodyWords → Bool
 may_join_now version (source file output) = false
-may_join_now version (fir input output shift plus taps) = false
+may_join_now version (fir input output filter) = false
 may_join_now version (delay input output steps) = false
 may_join_now version (decimate input output every) = false
 may_join_now version (split input outputs) = false
@@ -178,7 +217,7 @@ may_join_now version (sink input) = has_second version
 -- whether a line of this version, of this kind, may say how many steps a block has
 abbrev pub may_have_blocks : Version → BodyWords → Bool
 may_have_blocks version (source file output) = has_second version
-may_have_blocks version (fir input output shift plus taps) = has_second version
+may_have_blocks version (fir input output filter) = has_second version
 may_have_blocks version (delay input output steps) = has_second version
 may_have_blocks version (decimate input output every) = false
 may_have_blocks version (split input outputs) = false

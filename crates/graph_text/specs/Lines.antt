@@ -3,9 +3,10 @@ use Rattle.std.specs.Prelude.{ℕ, List, Option, Some, None}
 use Rattle.std.specs.Borrow.{Bor}
 use Rattle.phase_base.specs.Words.{Word}
 use Rattle.graph_text.specs.Plain.{plain as words_in}
-use Rattle.graph_text.specs.Decls.{Decl, phaser, task, FunctionWords, neg, abs, halve, clamp, ByWords, EndWords, BodyWords, source, fir, delay, decimate, split, join, peer, sink}
+use Rattle.graph_text.specs.Decls.{Decl, phaser, task, FunctionWords, neg, abs, halve, clamp, ByWords, EndWords, FilterWords, BodyWords, source, fir, delay, decimate, split, join, peer, sink}
 use Rattle.graph_text.specs.declared.line.By.{By}
 use Rattle.graph_text.specs.declared.line.Ends.{Ends}
+use Rattle.graph_text.specs.declared.line.Filter.{Filter}
 use Rattle.graph_text.specs.declared.line.Function.{Function}
 use Rattle.graph_text.specs.declared.line.Function.TheVariants as function
 use Rattle.graph_text.specs.declared.line.Body.{Body}
@@ -43,11 +44,21 @@ ends_of ends = record {
   block = word_of ends.block;
 }
 
+-- what a filter does
+abbrev pub filter_of : Filter → FilterWords
+filter_of filter = record {
+  delay = word_of filter.delay;
+  shift = filter.shift.now;
+  plus = word_of filter.plus;
+  taps = words_in filter.taps.now;
+  again = words_in filter.again.now;
+  single = single_of filter.single;
+}
+
 -- what a task does
 abbrev pub body_of : Body → BodyWords
 body_of (body.Source file output) = source file.now output.now
-body_of (body.Fir input output shift plus taps) =
-    fir input.now output.now shift.now (word_of plus) (words_in taps.now)
+body_of (body.Fir input output filter) = fir input.now output.now (filter_of filter)
 body_of (body.Delay input output steps) = delay input.now output.now steps.now
 body_of (body.Decimate input output every) = decimate input.now output.now every.now
 body_of (body.Split input outputs) = split input.now (words_in outputs.now)

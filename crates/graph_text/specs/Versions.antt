@@ -19,7 +19,7 @@ has_second One = false
 has_second Two = true
 has_second Three = true
 
--- whether a text of this version may have delays, decimators, and filters that add
+-- whether a text of this version may have delays, decimators, and filters that do more than weigh
 abbrev pub has_third : Version → Bool
 has_third One = false
 has_third Two = false
@@ -30,6 +30,7 @@ abbrev pub is_third_word : Word → Bool
 is_third_word word = bytes_eq word (codes "delay") || bytes_eq word (codes "of")
     || bytes_eq word (codes "plus") || bytes_eq word (codes "decimate")
     || bytes_eq word (codes "expand") || bytes_eq word (codes "every")
+    || bytes_eq word (codes "again")
 
 -- whether a line of this version may declare this name
 abbrev pub may_declare : Version → Word → Bool

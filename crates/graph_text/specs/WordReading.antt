@@ -8,12 +8,13 @@ use Rattle.phase_base.specs.Words.{Word, is_name, is_file}
 use Rattle.phase_base.specs.OperationWords.{operation_of}
 use Rattle.phase_base.specs.declared.operation.Op.{Op}
 use Rattle.phase_base.specs.Numbers.{is_nat, is_int}
-use Rattle.graph_text.specs.Decls.{Decl, phaser, task, FunctionWords, neg, abs, halve, clamp, ByWords, EndWords, BodyWords, source, fir, delay, decimate, split, join, peer, sink, may_have_parent, may_join_now, may_have_blocks}
+use Rattle.graph_text.specs.Decls.{Decl, phaser, task, FunctionWords, neg, abs, halve, clamp, ByWords, EndWords, FilterWords, BodyWords, source, fir, delay, decimate, split, join, peer, sink, may_have_parent, may_join_now, may_have_blocks}
 use Rattle.graph_text.specs.Versions.{has_third, may_declare}
 use Rattle.graph_text.specs.declared.version.Version.{Version}
-use Rattle.graph_text.specs.Lines.{function_of, single_of, by_of, word_of, body_of}
+use Rattle.graph_text.specs.Lines.{function_of, single_of, by_of, word_of, filter_of, body_of}
 use Rattle.graph_text.specs.Plain.{plain as words_in}
 use Rattle.graph_text.specs.declared.line.By.{By}
+use Rattle.graph_text.specs.declared.line.Filter.{Filter}
 use Rattle.graph_text.specs.declared.line.Function.{Function}
 use Rattle.graph_text.specs.declared.line.Body.{Body}
 
@@ -156,28 +157,62 @@ source_at words = do
   output ← word_at is_name sent
   Some (source file.0 output.0, output.1)
 
--- what a filter adds, or nothing where that is not allowed or the word for it is missing
-unfoldable pub plus_at : Bool → List Word → Option (Found (Option Word))
-plus_at allowed words =
-    if allowed && begins (codes "plus") words
+-- a number behind this sign that passes the test, or nothing where that is not allowed or the sign
+-- is missing
+unfoldable pub signed_at : Word → (Word → Bool) → Bool → List Word → Option (Found (Option Word))
+signed_at sign test allowed words =
+    if allowed && begins sign words
     then (do
-      added ← after (codes "plus") words
-      plus ← word_at is_int added
-      Some (Some plus.0, plus.1))
+      signed ← after sign words
+      number ← word_at test signed
+      Some (Some number.0, number.1))
     else Some (None, words)
 
--- what a filter does, which may add where that is allowed
+-- the taps that weigh what a filter put, or none where that is not allowed or the word for them is
+-- missing
+unfoldable pub again_at : Bool → List Word → Option (Found (List Word))
+again_at allowed words =
+    if allowed && begins (codes "again") words
+    then (do
+      named ← after (codes "again") words
+      some_at is_int named)
+    else Some ([], words)
+
+-- the single of a filter, or none where that is not allowed or the word for it is missing
+unfoldable pub applied_at : Bool → List Word → Option (Found (Option FunctionWords))
+applied_at allowed words = if allowed then single_at words else Some (None, words)
+
+-- what a filter does, which may do more than weigh where that is allowed
+unfoldable pub filter_at : Bool → List Word → Option (Found FilterWords)
+filter_at more words = do
+  age ← signed_at (codes "of") is_nat more words
+  shifted ← after (codes "shift") age.1
+  shift ← word_at is_nat shifted
+  plus ← signed_at (codes "plus") is_int more shift.1
+  tapped ← after (codes "taps") plus.1
+  taps ← some_at is_int tapped
+  again ← again_at more taps.1
+  single ← applied_at more again.1
+  Some (
+    record {
+      delay = age.0;
+      shift = shift.0;
+      plus = plus.0;
+      taps = taps.0;
+      again = again.0;
+      single = single.0;
+    },
+    single.1,
+  )
+
+-- what a filter does, with its phasers
 unfoldable pub fir_at : Bool → List Word → Option (Found BodyWords)
-fir_at adds words = do
+fir_at more words = do
   input ← word_at is_name words
   sent ← after (codes "->") input.1
   output ← word_at is_name sent
-  shifted ← after (codes "shift") output.1
-  shift ← word_at is_nat shifted
-  plus ← plus_at adds shift.1
-  tapped ← after (codes "taps") plus.1
-  taps ← some_at is_int tapped
-  Some (fir input.0 output.0 shift.0 plus.0 taps.0, taps.1)
+  filter ← filter_at more output.1
+  Some (fir input.0 output.0 filter.0, filter.1)
 
 -- what a delay does
 unfoldable pub delay_at : List Word → Option (Found BodyWords)
@@ -234,17 +269,17 @@ sink_at words = do
   Some (sink input.0, input.1)
 
 -- what a task does, by the first word of its line, where a delay, a decimator and a filter that
--- adds may be allowed
+-- does more than weigh may be allowed
 unfoldable pub body_at : Bool → Word → List Word → Option (Found BodyWords)
-body_at adds kind words =
+body_at more kind words =
     if bytes_eq kind (codes "source") then source_at words
-    else if bytes_eq kind (codes "fir") then fir_at adds words
+    else if bytes_eq kind (codes "fir") then fir_at more words
     else if bytes_eq kind (codes "split") then split_at words
     else if bytes_eq kind (codes "join") then join_at words
     else if bytes_eq kind (codes "peer") then peer_at words
     else if bytes_eq kind (codes "sink") then sink_at words
-    else if adds && bytes_eq kind (codes "delay") then delay_at words
-    else if adds && bytes_eq kind (codes "decimate") then decimate_at words
+    else if more && bytes_eq kind (codes "delay") then delay_at words
+    else if more && bytes_eq kind (codes "decimate") then decimate_at words
     else None
 
 -- ---- a line
@@ -309,15 +344,14 @@ found_now found = (found.0, words_in found.1.now)
 abbrev pub found_by : Option By × Bor (List (Bor (List ℕ))) → Found (Option ByWords)
 found_by found = (by_of found.0, words_in found.1.now)
 
--- a last boundary or none
-abbrev pub found_until :
+-- a number or none
+abbrev pub found_number :
     Option (Bor (List ℕ)) × Bor (List (Bor (List ℕ))) → Found (Option Word)
-found_until found = (word_of found.0, words_in found.1.now)
+found_number found = (word_of found.0, words_in found.1.now)
 
--- what a filter adds or nothing
-abbrev pub found_plus :
-    Option (Bor (List ℕ)) × Bor (List (Bor (List ℕ))) → Found (Option Word)
-found_plus found = (word_of found.0, words_in found.1.now)
+-- what a filter does
+abbrev pub found_filter : Filter × Bor (List (Bor (List ℕ))) → Found FilterWords
+found_filter found = (filter_of found.0, words_in found.1.now)
 
 -- what a task does
 abbrev pub found_body : Body × Bor (List (Bor (List ℕ))) → Found BodyWords

@@ -10,7 +10,7 @@ mod read;
 mod text;
 mod version;
 
-pub use line::{Body, By, Ends, Function, Line, PhaserWords, TaskWords};
+pub use line::{Body, By, Ends, Filter, Function, Line, PhaserWords, TaskWords};
 pub use number::{int_within, nat_within};
 pub use phase_base::{FILE_MAX, NAME_MAX, Op, file_text, name_text, without_cr};
 pub use read::line_at;

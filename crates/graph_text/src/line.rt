@@ -53,9 +53,9 @@ pub struct TaskWords<'w, 'a> {
 pub enum Body<'w, 'a> {
     /// `FILE -> Y`: the file, and the output.
     Source(&'a [u8], &'a [u8]),
-    /// `X -> Y shift N plus C taps T1 T2 ..`: the input, the output, the shift, what is added, in a
-    /// text of version 3, and the taps.
-    Fir(&'a [u8], &'a [u8], &'a [u8], Option<&'a [u8]>, &'w [&'a [u8]]),
+    /// `X -> Y of D shift S plus C taps T1 T2 .. again A1 A2 .. single FN`: the input, the output,
+    /// and what the filter does.
+    Fir(&'a [u8], &'a [u8], Filter<'w, 'a>),
     /// `X -> Y of N`, in a text of version 3: the input, the output and the number of steps.
     Delay(&'a [u8], &'a [u8], &'a [u8]),
     /// `X -> Y every N`, in a text of version 3: the input, the output, and of how many values one
@@ -69,6 +69,24 @@ pub enum Body<'w, 'a> {
     Peer(&'a [u8], &'a [u8], &'a [u8], &'a [u8]),
     /// `X`: the input.
     Sink(&'a [u8]),
+}
+
+/// What a filter does. In a text of version 1 or 2 it has a shift and taps alone.
+#[derive(Clone, Copy)]
+pub struct Filter<'w, 'a> {
+    /// The number after `of`: how many samples before the newest one the first tap weighs.
+    pub delay: Option<&'a [u8]>,
+    /// The number after `shift`.
+    pub shift: &'a [u8],
+    /// The number after `plus`, which is added to each sum.
+    pub plus: Option<&'a [u8]>,
+    /// The numbers after `taps`, at least one.
+    pub taps: &'w [&'a [u8]],
+    /// The numbers after `again`, which weigh what the filter put; none where there is no such
+    /// word.
+    pub again: &'w [&'a [u8]],
+    /// What is applied to each output.
+    pub single: Option<Function<'a>>,
 }
 
 /// The optional ends of a task's line.

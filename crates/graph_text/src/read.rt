@@ -5,11 +5,11 @@ ghost use Rattle.phase_base.specs.Words.{is_name as is_name_word, is_file as is_
 ghost use Rattle.phase_base.specs.Numbers.{is_nat as is_nat_word, is_int as is_int_word};
 ghost use Rattle.graph_text.specs.Decls.{Decl, Spells, may_have_parent, may_join_now, may_have_blocks};
 ghost use Rattle.std.specs.List.{prefix_len};
-ghost use Rattle.graph_text.specs.WordReading.{found_word, found_words, found_operation, found_function, found_single, found_now, found_by, found_until, found_plus, found_body, word_at, after, begins, some_at, operation_at, clamp_at, function_named, function_at, single_at, now_at, by_at, until_at, block_number, block_at, ends_at, source_at, plus_at, fir_at, delay_at, decimate_at, split_at, join_at, peer_at, sink_at, body_at, phaser_words_at, task_words_at, decl_at};
+ghost use Rattle.graph_text.specs.WordReading.{found_word, found_words, found_operation, found_function, found_single, found_now, found_by, found_number, found_filter, found_body, word_at, after, begins, some_at, operation_at, clamp_at, function_named, function_at, single_at, now_at, by_at, until_at, block_number, block_at, ends_at, source_at, signed_at, again_at, applied_at, filter_at, fir_at, delay_at, decimate_at, split_at, join_at, peer_at, sink_at, body_at, phaser_words_at, task_words_at, decl_at};
 ghost use Rattle.graph_text.specs.Versions.{may_declare};
 ghost use Rattle.graph_text.specs.Lines.{word_of, body_of, ends_of, decl_of};
 
-use crate::line::{Body, By, Ends, Function, Line, PhaserWords, TaskWords};
+use crate::line::{Body, By, Ends, Filter, Function, Line, PhaserWords, TaskWords};
 use crate::version::Version;
 use phase_base::{Op, is_file, is_int, is_name, is_nat};
 
@@ -254,7 +254,7 @@ fn by_at<'w, 'a>(
 /// `until M`, or nothing, and the words after it.
 #[tactic(auto, unfolding(crate::specs::WordReading::until_at))]
 fn until_at<'w, 'a>(words: &'w [&'a [u8]]) -> Option<(Option<&'a [u8]>, &'w [&'a [u8]])>
-    ensures { option_map found_until result ≡ until_at (plain words.now) }
+    ensures { option_map found_number result ≡ until_at (plain words.now) }
 {
     if begins(b"until", words) {
         let rest = after(b"until", words)?;
@@ -311,13 +311,32 @@ fn source_at<'w, 'a>(words: &'w [&'a [u8]]) -> Option<(Body<'w, 'a>, &'w [&'a [u
     Some((Body::Source(file, output), rest))
 }
 
+/// `of D` where that is allowed, or nothing, and the words after it.
+#[tactic(auto, unfolding(crate::specs::WordReading::signed_at))]
+fn age_at<'w, 'a>(
+    allowed: bool,
+    words: &'w [&'a [u8]],
+) -> Option<(Option<&'a [u8]>, &'w [&'a [u8]])>
+    ensures { option_map found_number result
+        ≡ signed_at (codes "of") is_nat_word allowed (plain words.now) }
+{
+    if allowed && begins(b"of", words) {
+        let rest = after(b"of", words)?;
+        let (steps, rest) = nat_at(rest)?;
+        Some((Some(steps), rest))
+    } else {
+        Some((None, words))
+    }
+}
+
 /// `plus C` where that is allowed, or nothing, and the words after it.
-#[tactic(auto, unfolding(crate::specs::WordReading::plus_at))]
+#[tactic(auto, unfolding(crate::specs::WordReading::signed_at))]
 fn plus_at<'w, 'a>(
     allowed: bool,
     words: &'w [&'a [u8]],
 ) -> Option<(Option<&'a [u8]>, &'w [&'a [u8]])>
-    ensures { option_map found_plus result ≡ plus_at allowed (plain words.now) }
+    ensures { option_map found_number result
+        ≡ signed_at (codes "plus") is_int_word allowed (plain words.now) }
 {
     if allowed && begins(b"plus", words) {
         let rest = after(b"plus", words)?;
@@ -328,21 +347,71 @@ fn plus_at<'w, 'a>(
     }
 }
 
-/// `X -> Y shift N taps T1 T2 ..`, with `plus C` before `taps` where that is allowed, and the words
-/// after it.
+/// `again A1 A2 ..` where that is allowed, or nothing, and the words after it.
+#[tactic(auto, unfolding(crate::specs::WordReading::again_at))]
+fn again_at<'w, 'a>(
+    allowed: bool,
+    words: &'w [&'a [u8]],
+) -> Option<(&'w [&'a [u8]], &'w [&'a [u8]])>
+    ensures { option_map found_words result ≡ again_at allowed (plain words.now) }
+{
+    if allowed && begins(b"again", words) {
+        ints_at(after(b"again", words)?)
+    } else {
+        Some((&words[..0], words))
+    }
+}
+
+/// `single FN` where that is allowed, or nothing, and the words after it.
+#[tactic(auto, unfolding(crate::specs::WordReading::applied_at))]
+fn applied_at<'w, 'a>(
+    allowed: bool,
+    words: &'w [&'a [u8]],
+) -> Option<(Option<Function<'a>>, &'w [&'a [u8]])>
+    ensures { option_map found_single result ≡ applied_at allowed (plain words.now) }
+{
+    if allowed {
+        single_at(words)
+    } else {
+        Some((None, words))
+    }
+}
+
+/// `of D shift S plus C taps T1 T2 .. again A1 A2 .. single FN`, without the optional ones where
+/// they are not allowed, and the words after it.
+#[tactic(auto, unfolding(crate::specs::WordReading::filter_at))]
+fn filter_at<'w, 'a>(more: bool, words: &'w [&'a [u8]]) -> Option<(Filter<'w, 'a>, &'w [&'a [u8]])>
+    ensures { option_map found_filter result ≡ filter_at more (plain words.now) }
+{
+    let (delay, rest) = age_at(more, words)?;
+    let rest = after(b"shift", rest)?;
+    let (shift, rest) = nat_at(rest)?;
+    let (plus, rest) = plus_at(more, rest)?;
+    let rest = after(b"taps", rest)?;
+    let (taps, rest) = ints_at(rest)?;
+    let (again, rest) = again_at(more, rest)?;
+    let (single, rest) = applied_at(more, rest)?;
+    let filter = Filter {
+        delay,
+        shift,
+        plus,
+        taps,
+        again,
+        single,
+    };
+    Some((filter, rest))
+}
+
+/// `X -> Y` and what a filter does, and the words after it.
 #[tactic(auto, unfolding(crate::specs::WordReading::fir_at))]
-fn fir_at<'w, 'a>(adds: bool, words: &'w [&'a [u8]]) -> Option<(Body<'w, 'a>, &'w [&'a [u8]])>
-    ensures { option_map found_body result ≡ fir_at adds (plain words.now) }
+fn fir_at<'w, 'a>(more: bool, words: &'w [&'a [u8]]) -> Option<(Body<'w, 'a>, &'w [&'a [u8]])>
+    ensures { option_map found_body result ≡ fir_at more (plain words.now) }
 {
     let (input, rest) = name_at(words)?;
     let rest = after(b"->", rest)?;
     let (output, rest) = name_at(rest)?;
-    let rest = after(b"shift", rest)?;
-    let (shift, rest) = nat_at(rest)?;
-    let (plus, rest) = plus_at(adds, rest)?;
-    let rest = after(b"taps", rest)?;
-    let (taps, rest) = ints_at(rest)?;
-    Some((Body::Fir(input, output, shift, plus, taps), rest))
+    let (filter, rest) = filter_at(more, rest)?;
+    Some((Body::Fir(input, output, filter), rest))
 }
 
 /// `X -> Y of N`, and the words after it.
@@ -418,19 +487,19 @@ fn sink_at<'w, 'a>(words: &'w [&'a [u8]]) -> Option<(Body<'w, 'a>, &'w [&'a [u8]
 }
 
 /// What a task does, by the first word of its line, and the words after it; a delay, a decimator
-/// and a filter that adds where they are allowed.
+/// and a filter that does more than weigh where they are allowed.
 #[tactic(auto, unfolding(crate::specs::WordReading::body_at))]
 fn body_at<'w, 'a>(
-    adds: bool,
+    more: bool,
     kind: &[u8],
     words: &'w [&'a [u8]],
 ) -> Option<(Body<'w, 'a>, &'w [&'a [u8]])>
-    ensures { option_map found_body result ≡ body_at adds kind.now (plain words.now) }
+    ensures { option_map found_body result ≡ body_at more kind.now (plain words.now) }
 {
     if kind == b"source".as_slice() {
         source_at(words)
     } else if kind == b"fir".as_slice() {
-        fir_at(adds, words)
+        fir_at(more, words)
     } else if kind == b"split".as_slice() {
         split_at(words)
     } else if kind == b"join".as_slice() {
@@ -439,9 +508,9 @@ fn body_at<'w, 'a>(
         peer_at(words)
     } else if kind == b"sink".as_slice() {
         sink_at(words)
-    } else if adds && kind == b"delay".as_slice() {
+    } else if more && kind == b"delay".as_slice() {
         delay_at(words)
-    } else if adds && kind == b"decimate".as_slice() {
+    } else if more && kind == b"decimate".as_slice() {
         decimate_at(words)
     } else {
         None

@@ -14,7 +14,8 @@ pub enum Version {
     /// and a source, a filter or a sink may make several steps at once.
     Two,
     /// A text whose heading is `graph 3`: it may have all that one of version 2 may, delays,
-    /// decimators, and filters that add to their sums.
+    /// decimators, and filters that also add to their sums, weigh what they put, and apply a
+    /// single.
     Three,
 }
 
@@ -41,7 +42,8 @@ impl Version {
         self != Version::One
     }
 
-    /// Whether a text of this version may have delays, decimators, and filters that add.
+    /// Whether a text of this version may have delays, decimators, and filters that do more than
+    /// weigh.
     pub(crate) fn has_third(self) -> bool
         ensures { result ≡ has_third self }
     {
@@ -67,4 +69,5 @@ pub fn is_third_word(word: &[u8]) -> bool
         || word == b"decimate".as_slice()
         || word == b"expand".as_slice()
         || word == b"every".as_slice()
+        || word == b"again".as_slice()
 }

@@ -18,14 +18,14 @@ returns-then-is_twice-clause-fault c =
     let body = body_of c.args.words.body in
     let ends = ends_of c.args.words.ends in
     let d = task name body ends in
-    let within = not-past (is_past_limit before d)
+    let within = not-past (is_past_limit c.args.version before d)
     (sym c.in_ok-numbers.ensures.within ∙ ap is_some c.in-Some.is) in
     let words = ap plain c.deref.ensures.value ∙ c.in_ok-phasers.ensures in
     let twice = ap (λ ws. is_some (place_of before.names name) || not (are_distinct ws)) (sym words)
     ∙ sym c.is_twice.ensures in
     rw c.fault-then-is_twice.ensures
     (ap (line_outcome c.args.number before d)
-    (sym (task-twice before name body ends c.args.number within (twice ∙ c.if-is_twice.true))))
+    (sym (task-twice c.args.version before name body ends c.args.number within (twice ∙ c.if-is_twice.true))))
 
 -- a name is unknown
 pub returns-in_default-2-clause-fault : goal.returns-in_default-2-clause-fault
@@ -35,7 +35,7 @@ returns-in_default-2-clause-fault c =
     let body = body_of c.args.words.body in
     let ends = ends_of c.args.words.ends in
     let d = task name body ends in
-    let within = not-past (is_past_limit before d)
+    let within = not-past (is_past_limit c.args.version before d)
     (sym c.in_ok-numbers.ensures.within ∙ ap is_some c.in-Some.is) in
     let words = ap plain c.deref.ensures.value ∙ c.in_ok-phasers.ensures in
     let twice = ap (λ ws. is_some (place_of before.names name) || not (are_distinct ws)) (sym words)
@@ -43,7 +43,7 @@ returns-in_default-2-clause-fault c =
     let none = sym c.in_ok-task.ensures.known ∙ ap is_some c.in_default-2.is in
     rw c.fault-in_default-2.ensures
     (ap (line_outcome c.args.number before d)
-    (sym (task-unknown before name body ends c.args.number within (twice ∙ c.if-is_twice.false) none)))
+    (sym (task-unknown c.args.version before name body ends c.args.number within (twice ∙ c.if-is_twice.false) none)))
 
 -- the task has a fault
 pub returns-in-Some-last_kind-clause-fault : goal.returns-in-Some-last_kind-clause-fault
@@ -53,7 +53,7 @@ returns-in-Some-last_kind-clause-fault c =
     let body = body_of c.args.words.body in
     let ends = ends_of c.args.words.ends in
     let d = task name body ends in
-    let within = not-past (is_past_limit before d)
+    let within = not-past (is_past_limit c.args.version before d)
     (sym c.in_ok-numbers.ensures.within ∙ ap is_some c.in-Some.is) in
     let words = ap plain c.deref.ensures.value ∙ c.in_ok-phasers.ensures in
     let twice = ap (λ ws. is_some (place_of before.names name) || not (are_distinct ws)) (sym words)
@@ -62,7 +62,7 @@ returns-in-Some-last_kind-clause-fault c =
     c.in-Some-2.is c.in_ok-task.ensures.line in
     let known = sym c.in_ok-task.ensures.known ∙ ap is_some c.in-Some-2.is in
     let last = c.last_kind.ensures
-    ∙ sym (task-last before name body ends c.args.number within (twice ∙ c.if-is_twice.false) known
+    ∙ sym (task-last c.args.version before name body ends c.args.number within (twice ∙ c.if-is_twice.false) known
     (task_of c.in-Some-2.task) read) in
     rw c.fault-in-Some-last_kind.ensures
     (ap (line_outcome c.args.number before d) (sym c.in-Some-last_kind.is ∙ last))
@@ -75,7 +75,7 @@ returns-clause-ok c =
     let body = body_of c.args.words.body in
     let ends = ends_of c.args.words.ends in
     let d = task name body ends in
-    let within = not-past (is_past_limit before d)
+    let within = not-past (is_past_limit c.args.version before d)
     (sym c.in_ok-numbers.ensures.within ∙ ap is_some c.in-Some.is) in
     let words = ap plain c.deref.ensures.value ∙ c.in_ok-phasers.ensures in
     let twice = ap (λ ws. is_some (place_of before.names name) || not (are_distinct ws)) (sym words)
@@ -84,7 +84,7 @@ returns-clause-ok c =
     c.in-Some-2.is c.in_ok-task.ensures.line in
     let known = sym c.in_ok-task.ensures.known ∙ ap is_some c.in-Some-2.is in
     let last = c.last_kind.ensures
-    ∙ sym (task-last before name body ends c.args.number within (twice ∙ c.if-is_twice.false) known
+    ∙ sym (task-last c.args.version before name body ends c.args.number within (twice ∙ c.if-is_twice.false) known
     (task_of c.in-Some-2.task) read) in
     ap Ok (c.in_ok-add_task.ensures ∙ with-task before name body ends c.args.number
     (task_of c.in-Some-2.task) read)
@@ -98,7 +98,7 @@ returns-in_default-clause-fault c =
     let body = body_of c.args.words.body in
     let ends = ends_of c.args.words.ends in
     let d = task name body ends in
-    let beyond = past (is_past_limit before d)
+    let beyond = past (is_past_limit c.args.version before d)
     (sym c.in_ok-numbers.ensures.within ∙ ap is_some c.in_default.is) in
     rw c.fault.ensures
-    (ap (line_outcome c.args.number before d) (sym (task-limit before name body ends beyond)))
+    (ap (line_outcome c.args.number before d) (sym (task-limit c.args.version before name body ends beyond)))

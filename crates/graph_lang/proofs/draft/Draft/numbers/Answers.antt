@@ -31,13 +31,13 @@ returns-then-len-ge-TASKS_MAX-clause-within c =
     let same = ap (λ (graph : Graph). length graph.tasks) c.self.view_is in
     let full : TASKS_MAX ≤ length c.args.self.now.tasks =
     omega (arith, c.if-len-ge-TASKS_MAX.true, c.len.ensures, same, length-map lines task_of) in
-    let rest = is_body_within (body_of c.args.words.body) && are_ends_within (ends_of c.args.words.ends) in
+    let rest = is_body_within c.args.version (body_of c.args.words.body) && are_ends_within (ends_of c.args.words.ends) in
     ap (λ b. not (not b)) (sym (room-none rest (length c.args.self.now.tasks) TASKS_MAX full))
 
 -- a number of the ends is past its limit
 pub returns-in_default-clause-within : goal.returns-in_default-clause-within
 returns-in_default-clause-within c =
-    let body = is_body_within (body_of c.args.words.body) in
+    let body = is_body_within c.args.version (body_of c.args.words.body) in
     let ends = ends_of c.args.words.ends in
     let none = none-if (are_ends_within ends) (steps_in ends) (sym c.steps_of.ensures ∙ c.in_default.is) in
     ap (λ b. not (not b)) (sym (no-ends body (are_ends_within ends)
@@ -50,7 +50,7 @@ returns-in-Some-2-clause-within c =
     let same = ap (λ (graph : Graph). length graph.tasks) c.self.view_is in
     let free : length c.args.self.now.tasks < TASKS_MAX =
     omega (arith, c.if-len-ge-TASKS_MAX.false, c.len.ensures, same, length-map lines task_of) in
-    let body = is_body_within (body_of c.args.words.body) in
+    let body = is_body_within c.args.version (body_of c.args.words.body) in
     let ends = ends_of c.args.words.ends in
     let steps = cond_some (are_ends_within ends) (steps_in ends) c.in-Some.steps
     (sym c.steps_of.ensures ∙ c.in-Some.is) in

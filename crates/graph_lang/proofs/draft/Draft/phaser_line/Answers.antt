@@ -19,7 +19,7 @@ returns-in_default-clause-err c =
     let out = none-if (is_phaser_within words.bound.now single)
     (phaser_line words.operation words.bound.now single)
     (sym c.phaser_line.ensures ∙ c.in_default.is) in
-    phaser-limit c.args.self.now words.name.now words.operation words.bound.now single
+    phaser-limit c.args.version c.args.self.now words.name.now words.operation words.bound.now single
     (ap (λ b. b && nat_lt (length c.args.self.now.phasers) PHASERS_MAX) out)
 
 -- there are as many phasers as may be
@@ -30,7 +30,7 @@ returns-then-len-ge-PHASERS_MAX-clause-err c =
     let count = length c.args.self.now.phasers in
     let Many : Graph → Type 0 = λ graph. PHASERS_MAX ≤ length graph.phasers in
     let many = subst Many c.self.view_is (search rules) in
-    phaser-limit c.args.self.now words.name.now words.operation words.bound.now single
+    phaser-limit c.args.version c.args.self.now words.name.now words.operation words.bound.now single
     (and_right (is_phaser_within words.bound.now single) (nat_lt count PHASERS_MAX)
     (le-ltb count PHASERS_MAX many))
 
@@ -47,7 +47,7 @@ returns-then-is_some-clause-err c =
     let within = cond_some (is_phaser_within words.bound.now single)
     (phaser_line words.operation words.bound.now single) c.in-Some.line
     (sym c.phaser_line.ensures ∙ c.in-Some.is) in
-    sym (phaser-named c.args.self.now words.name.now words.operation words.bound.now single
+    sym (phaser-named c.args.version c.args.self.now words.name.now words.operation words.bound.now single
     (and_from (is_phaser_within words.bound.now single) (nat_lt count PHASERS_MAX) within.0
     (lt-ltb count PHASERS_MAX few)) ∙ ap (λ b. if b then Some Twice else None) named)
 
@@ -73,6 +73,6 @@ returns-clause-none c =
     let within = cond_some (is_phaser_within words.bound.now single)
     (phaser_line words.operation words.bound.now single) c.in-Some.line
     (sym c.phaser_line.ensures ∙ c.in-Some.is) in
-    phaser-named c.args.self.now words.name.now words.operation words.bound.now single
+    phaser-named c.args.version c.args.self.now words.name.now words.operation words.bound.now single
     (and_from (is_phaser_within words.bound.now single) (nat_lt count PHASERS_MAX) within.0
     (lt-ltb count PHASERS_MAX few)) ∙ ap (λ b. if b then Some Twice else None) new
