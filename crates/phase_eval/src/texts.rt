@@ -19,7 +19,7 @@ use watched_io::Watched;
 
 /// The shortest part of a text that a thread reads, in bytes.
 const BYTES_MIN: usize = 262_144;
-/// How many bytes of a text each thread reads of a round: what they made stands twice until its end.
+/// How many bytes of a text each thread reads of a round: what they made stands twice until then.
 const BYTES_ROUND: usize = 1_048_576;
 /// The fewest values of which a thread makes the text.
 pub(crate) const VALUES_MIN: usize = 32_768;
