@@ -111,8 +111,8 @@ fn put_line(text: &mut Vec<u8>, form: &str, ends: &str) -> Result<(), AllocError
     put(text, ["  form: ", form, ends, "\n"].as_slice())
 }
 
-/// Puts the form of a line in a text of this version behind what is told of it, where it has a fault
-/// of this kind.
+/// Puts the form of a line in a text of this version behind what is told of it, where it has a
+/// fault of this kind.
 pub(crate) fn put_form(
     alloc: Global,
     text: &mut Vec<u8>,
