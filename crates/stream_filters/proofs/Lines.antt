@@ -174,6 +174,13 @@ AreRecent-next limit n left next line x recent (inl small) =
     (AreRecent-push limit n left line x recent small.0)
 AreRecent-next limit n left next line x recent (inr wide) = λ j lt. absurd (omega arith)
 
+-- all of a line is within the limit
+pub AreRecent-all : (limit n : ℕ) (line : List ℤ) → All (λ x. unsigned_abs x ≤ limit) line
+    → n ≡ length line → AreRecent limit n 0 line
+AreRecent-all limit n line all many j lt =
+    rw (get_or-reverse line j (pos 0) (omega arith))
+    (all (length line - 1 - j) (pos 0) (omega arith))
+
 pub AreRecent-same : (limit n left : ℕ) (line other : List ℤ)
     → window_of n line ≡ window_of n other → AreRecent limit n left other
     → AreRecent limit n left line

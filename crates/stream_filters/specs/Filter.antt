@@ -1,5 +1,5 @@
 -- What a filter answers, as a function of the whole list of its samples.
-use Rattle.std.specs.Prelude.{◌≡◌, ℕ, ◌<◌, ◌≤◌, ◌+◌, ◌-◌, List, [], ◌∷◌, ◌++◌, length, map, take, drop, ℤ, pos, ◌+ℤ◌, unsigned_abs, Option, None, Some, if◌then◌else◌}
+use Rattle.std.specs.Prelude.{◌≡◌, ℕ, ◌<◌, ◌≤◌, ◌+◌, ◌-◌, List, [], ◌∷◌, ◌++◌, length, map, take, drop, reverse, ℤ, pos, ◌+ℤ◌, unsigned_abs, Option, None, Some, if◌then◌else◌}
 use Rattle.std.specs.List.{All}
 use Rattle.phase_accum.specs.Values.{single_of}
 use Rattle.phase_accum.specs.declared.single.Single.{Single}
@@ -100,6 +100,10 @@ with_put fir y = record fir { puts = take fir.form.again (y ∷ fir.puts) }
 -- a filter that has taken the sample x, and put what it comes to
 abbrev pub after_sample : FirState → ℤ → FirState
 after_sample fir x = with_put (with_sample fir x) (put_of (output_of (with_sample fir x)))
+
+-- one that stands where another stood whose last samples and last puts these are, the oldest first
+abbrev pub resumed : FirState → List ℤ → List ℤ → FirState
+resumed fir samples puts = record fir { window = reverse samples; puts = reverse puts }
 
 -- the windows stand for these samples: they show the last ones and what was put at them, and 0
 -- before the first

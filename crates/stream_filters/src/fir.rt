@@ -1,6 +1,6 @@
 //! The filter.
 ghost use Rattle.std.specs.Prelude.{◌≡◌, ◌↔◌, ◌+◌, ◌-◌, ◌^◌, ◌<◌, ◌≤◌, List, [], ◌∷◌, ◌++◌, ℤ, length, take, reverse, vec_capacity, IsTrue, IsOk, IfOk, false};
-ghost use Rattle.stream_filters.specs.Filter.{AreFewTaps, AreTaps, StandsFor, after_sample, by_shift, output_after, output_of, outputs_of_block, put_of, with_put};
+ghost use Rattle.stream_filters.specs.Filter.{AreFewTaps, AreTaps, StandsFor, after_sample, by_shift, output_after, output_of, outputs_of_block, put_of, reach, resumed, with_put};
 ghost use Rattle.stream_filters.specs.Range.{before_out_of_range, ranged};
 
 use crate::blocks::BLOCK;
@@ -8,7 +8,7 @@ use crate::fault::{FirFault, TooBigValue};
 use crate::form::{Form, is_plain};
 use crate::range::in_range;
 use crate::recursive::output_for;
-use crate::weigher::{Weigher, make_room, zeros};
+use crate::weigher::{Weigher, make_room, put_all, zeros};
 use std::alloc::Global;
 use std::marker::Model;
 
@@ -171,6 +171,21 @@ impl Fir {
         if !self.again.is_empty() {
             self.put(self.answer());
         }
+    }
+
+    /// Has it stand where a filter stood whose last samples and last puts these are, the oldest
+    /// first. It takes no memory.
+    ///
+    /// What it put is what it answered, and 0 where that was out of range. Where it was not yet
+    /// given so many samples, zeros stand in front.
+    pub fn resume(&mut self, samples: &[i64], puts: &[i64])
+        requires samples { length samples.now ≡ reach self.old.taps self.old.form }
+        requires puts { length puts.now ≡ self.old.form.again }
+        ensures { self.new ≡ resumed self.old samples.now puts.now }
+    {
+        self.weigher.resume(samples);
+        self.puts.truncate(0);
+        put_all(&mut self.puts, puts);
     }
 
     /// Takes these samples one after the other, and puts their answers behind `made`, where there

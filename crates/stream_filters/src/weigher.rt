@@ -1,7 +1,7 @@
 //! Weighted sums of the last samples.
-ghost use Rattle.std.specs.Prelude.{◌≡◌, ◌+◌, ◌^◌, ◌≤◌, ℕ, List, [], ◌∷◌, ◌++◌, ℤ, pos, length, vec_capacity, unsigned_abs, IsTrue, IfOk, false};
+ghost use Rattle.std.specs.Prelude.{◌≡◌, ◌+◌, ◌^◌, ◌≤◌, ℕ, List, [], ◌∷◌, ◌++◌, ℤ, pos, length, reverse, vec_capacity, unsigned_abs, IsTrue, IfOk, false};
 ghost use Rattle.stream_filters.specs.Sums.{at_place, summed};
-ghost use Rattle.stream_filters.specs.Weighing.{AreAhead, ShowsSamples, after_weighed};
+ghost use Rattle.stream_filters.specs.Weighing.{AreAhead, ShowsSamples, after_weighed, span};
 ghost use Rattle.stream_filters.specs.WeigherFields.{window_of};
 
 use crate::blocks::{BLOCK, block_outputs};
@@ -129,6 +129,20 @@ impl Weigher {
             kept
         } else {
             self.wide_steps_left.saturating_sub(1)
+        };
+    }
+
+    /// Has the window hold these samples, the oldest first, and no other.
+    pub(crate) fn resume(&mut self, samples: &[i64])
+        requires many { length samples.now ≡ span self.old.taps self.old.form }
+        ensures { self.new ≡ record self.old { window = reverse samples.now } }
+    {
+        self.line.truncate(0);
+        put_all(&mut self.line, samples);
+        self.wide_steps_left = if are_within(samples, self.limit) {
+            0
+        } else {
+            samples.len()
         };
     }
 
