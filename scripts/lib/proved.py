@@ -12,7 +12,7 @@ TOP = project.TOP
 # them.
 BELIEVED = ("HANDLES", "bindings/c", "bindings/python", "bindings/rust", "scripts/bind",
             "scripts/lib/archive.py", "scripts/lib/deb.py", "scripts/lib/licences.py",
-            "scripts/lib/static-library")
+            "scripts/lib/newer", "scripts/lib/newer.c", "scripts/lib/static-library")
 # What of the kit goes into a proof or into a program, beside its crates.
 OF_KIT = ("KIT-ID", "bin", "c", "logic_built", "rattle", "toolchain")
 # Where the gate leaves its last line, with the commit that it is of.
@@ -33,7 +33,8 @@ sums of the crates below it. docs/PROOFS.md says what the contracts promise.
 
 What is believed, and not proved: the toolchain (the prover's kernel, its compiler, its statements
 of the C library and of its own crates), the compiler and linker named above, the C library and the
-system. Of libphase: how calls wait (bindings/c/phase_wait.c), and what the headers, the crates and
+system; that the program looks at the processor rightly, by which its code for any or that for newer
+ones goes (scripts/lib/newer.c). Of libphase: how calls wait (bindings/c/phase_wait.c), and what the headers, the crates and
 the files of Python do around the proved calls; these are tested. Behind the crates stands each file
 of the repository that is believed, with its SHA-256, and each that makes an archive.
 
