@@ -49,7 +49,7 @@ enum {
     PHASE_E_ROOM = -5,
     /* There was no memory, or a list has more values than any memory holds. */
     PHASE_E_MEMORY = -6,
-    /* No filter has these taps and this shift. */
+    /* No filter has these taps, or this shift or form. */
     PHASE_E_TAPS = -7
 };
 
@@ -79,8 +79,12 @@ enum { PHASE_NO_START = -1 };
 #define PHASE_PHASERS_MAX 64
 #define PHASE_TASKS_MAX 64
 
-/* The most taps of a filter. */
+/* The most taps of a filter by phase_fir; by phase_fir_with the most for samples, and for what it
+ * put, and how old the newest sample may be that it weighs. */
 #define PHASE_TAPS_MAX 64
+#define PHASE_FORM_TAPS_MAX 1024
+#define PHASE_AGAIN_MAX 64
+#define PHASE_DELAY_MAX 65536
 
 /* The most samples of a source. */
 #define PHASE_SAMPLES_MAX 67108864
@@ -164,6 +168,36 @@ int32_t phase_fir(const int64_t *taps, size_t taps_len, uint32_t shift,
 int32_t phase_fir_in_place(const int64_t *taps, size_t taps_len, uint32_t shift,
                            int64_t *state, size_t state_len,
                            int64_t *block, size_t block_len, size_t *done);
+
+/* What a filter does beside weighing its newest samples; all zero it does no more. */
+typedef struct phase_fir_form {
+    uint32_t shift;   /* bits, 0 to 62: each sum is divided by 2 to that power and rounded down */
+    uint32_t single;  /* PHASE_NO_SINGLE, or what is applied behind the shift: PHASE_NEG, .. */
+    int64_t plus;     /* added to each sum before it is shifted; a magnitude of 2^62 at most */
+    size_t delay;     /* the first tap weighs the sample so far back; PHASE_DELAY_MAX at most */
+    size_t again;     /* how many of the taps, the last ones, weigh what the filter put */
+    int64_t low;      /* the ends of PHASE_CLAMP */
+    int64_t high;
+} phase_fir_form;
+
+/* The same by a form, as the line `fir` of a text 3 has it. The last form->again taps, at most
+ * PHASE_AGAIN_MAX, weigh the values that the filter put, the first of them the one before; the
+ * others, 1 to PHASE_FORM_TAPS_MAX, weigh samples. A single is applied to the whole number that the
+ * filter comes to, before its range is looked at, so that a clamp saturates.
+ *
+ * state has the last form->delay + taps_len - form->again samples before the block, and puts the
+ * last form->again values, each the oldest first, and zeros where there were none; at PHASE_OK both
+ * have those of the block too. PHASE_E_TAPS also says that no filter has the form, and
+ * PHASE_E_COUNTS that state or puts has another length. */
+int32_t phase_fir_with(const int64_t *taps, size_t taps_len, const phase_fir_form *form,
+                       int64_t *state, size_t state_len, int64_t *puts, size_t puts_len,
+                       const int64_t *block, size_t block_len,
+                       int64_t *out, size_t out_len, size_t *done);
+
+/* The same, but each value is written over its sample, as by phase_fir_in_place. */
+int32_t phase_fir_with_in_place(const int64_t *taps, size_t taps_len, const phase_fir_form *form,
+                                int64_t *state, size_t state_len, int64_t *puts, size_t puts_len,
+                                int64_t *block, size_t block_len, size_t *done);
 
 /* ---- A phaser for one thread at a time.
  *
@@ -485,7 +519,7 @@ static inline const char *phase_status_text(int32_t status)
     case PHASE_E_TOO_BIG: return "a value out of range";
     case PHASE_E_ROOM: return "too little room for what is to be written";
     case PHASE_E_MEMORY: return "out of memory";
-    case PHASE_E_TAPS: return "no filter has these taps and this shift";
+    case PHASE_E_TAPS: return "no filter has these taps, or this shift or form";
     case PHASE_E_NO_STREAM: return "there is no stream";
     case PHASE_E_HAS_STREAM: return "there is a stream already";
     case PHASE_E_NO_SOURCE: return "the graph has not so many sources";

@@ -169,12 +169,75 @@ look("rounded down", phase.Fir([1, 2, 1], 2)([-1, -1, 0]).tolist() == [-1, -1, -
 why = refused(TypeError, phase.Fir, [0.5, 0.5])
 look("taps that are fractions", str(why).startswith("taps are one row of whole numbers: times"))
 look("no taps", refused(phase.TapsError, phase.Fir, []))
-look("65 taps", refused(phase.TapsError, phase.Fir, [1] * 65))
+look("1,025 taps", refused(phase.TapsError, phase.Fir, [1] * 1025))
+look("1,024 taps", phase.Fir([1] * 1024)([1] * 1030).tolist() == [*range(1, 1025)] + [1024] * 6)
 look("a tap of 2**31", refused(phase.TapsError, phase.Fir, [2**31]))
 for shift in (63, -1, 2**32, 2**32 + 1):
     look(f"a shift of {shift}", refused(phase.TapsError, phase.Fir, [1, 1], shift))
 look("a shift that is no whole number", refused(TypeError, phase.Fir, [1], 0.5))
 look("how it is shown", repr(phase.Fir([1, -1], 2)) == "Fir([1, -1], shift=2)")
+
+
+
+def made(samples, taps, shift, plus, delay, again, apply):
+    """What a filter makes, in whole numbers of any size."""
+    values = []
+    for n in range(len(samples)):
+        total = plus + sum(
+            tap * samples[n - delay - j] for j, tap in enumerate(taps) if n >= delay + j
+        )
+        total += sum(tap * put for tap, put in zip(again, reversed(values)))
+        values.append(apply(total >> shift))
+    return values
+
+
+samples = [n * 7919 % 2003 - 1001 for n in range(300)]
+for name, taps, shift, more, apply in (
+    ("a running sum", [1], 0, {"again": [1]}, int),
+    ("a biquad", [329, 658, 329], 14, {"plus": 8192, "again": [25576, -10508]}, int),
+    ("a sum that saturates", [1], 0, {"again": [1], "clamp": (-1500, 1200)},
+     lambda v: max(-1500, min(1200, v))),
+    ("a rectifier", [3, -1], 1, {"single": phase.ABS}, abs),
+    ("one by its word", [1], 0, {"single": "neg", "again": [0, 1]}, lambda v: -v),
+    ("halves", [1], 0, {"single": phase.HALVE, "delay": 70}, lambda v: v // 2),
+    ("long taps", [1, -2, 3] * 300, 3, {"delay": 5, "plus": -7}, int),
+    ("64 again", [1], 1, {"again": [1, 0] * 32, "clamp": (-999, 999)},
+     lambda v: max(-999, min(999, v))),
+):
+    form = {"plus": 0, "delay": 0, "again": [], **more}
+    wanted = made(samples, taps, shift, form["plus"], form["delay"], form["again"], apply)
+    look(name, phase.Fir(taps, shift, **more)(samples).tolist() == wanted)
+    for size in 1, 7, 64:
+        fed, over = phase.Fir(taps, shift, **more), phase.Fir(taps, shift, **more)
+        cut = [numpy.array(samples[at : at + size]) for at in range(0, 300, size)]
+        look(f"{name}, by {size}", [y for it in cut for y in fed(it).tolist()] == wanted)
+        for it in cut:
+            over.in_place(it)
+        look(f"{name}, in place by {size}", [y for it in cut for y in it.tolist()] == wanted)
+    whole = phase.Fir(taps, shift, **more)
+    first = whole(samples[:150]).tolist()
+    others = [copy.deepcopy(whole), pickle.loads(pickle.dumps(whole))]
+    look(f"{name}, copies go on", all(
+        first + it(samples[150:]).tolist() == wanted for it in others
+    ))
+grows = phase.Fir([1], again=[2])
+why = refused(phase.TooBig, grows, [1] + [0] * 70)
+look("one that grows", why and why.at == 63 and why.values.tolist() == [2**n for n in range(63)])
+look("and stands where it stood", grows([3, 0]).tolist() == [3, 6])
+saturating = phase.Fir([3], clamp=(-(2**15), 2**15 - 1))
+look("a clamp before the range", saturating([MOST, -MOST]).tolist() == [32767, -32768])
+for more in (
+    {"again": [1] * 65}, {"again": [2**31]}, {"delay": 65537}, {"delay": -1}, {"plus": 2**62 + 1},
+    {"plus": 2**80}, {"clamp": (1, 0)}, {"delay": 2**64},
+):
+    look(f"no filter with {more}", refused(phase.TapsError, phase.Fir, [1], **more))
+look("two singles", refused(TypeError, phase.Fir, [1], single="neg", clamp=(0, 1)))
+look("no such single", refused(phase.BadSingle, phase.Fir, [1], single="twice"))
+look("taps again that are fractions", refused(TypeError, phase.Fir, [1], again=[0.5]))
+look(
+    "how more is shown",
+    repr(phase.Fir([1], 3, plus=4, again=[7])) == "Fir([1], shift=3, plus=4, again=[7])",
+)
 
 taps = numpy.array([1, 1])
 sums = phase.Fir(taps)

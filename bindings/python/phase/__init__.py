@@ -49,7 +49,7 @@ __all__ = [
     "SharedPhaser", "Registration", "PhaserCounts", "Signalled", "BrokenPhaserError",
     "SUM", "PRODUCT", "LEAST", "GREATEST", "ANY",
     "SIG", "WAIT", "SIG_WAIT", "SINGLE", "NO_SINGLE", "NEG", "ABS", "HALVE",
-    "PHASERS_MAX", "TASKS_MAX", "TAPS_MAX", "SAMPLES_MAX",
+    "PHASERS_MAX", "TASKS_MAX", "TAPS_MAX", "FORM_TAPS_MAX", "AGAIN_MAX", "DELAY_MAX", "SAMPLES_MAX",
     "BOUND_MAX", "PHASES_MAX", "MEMBERS_MAX", "SENDS_MAX",
     "Error", "GraphError", "SamplesError", "TooBig", "TapsError", "PhaserError",
     "NoPhaser", "BadOperation", "BadBound", "BadPhases", "BadMode", "BadSingle", "BadValue",
@@ -121,6 +121,9 @@ E_CLOSED = -47
 PHASERS_MAX = 64
 TASKS_MAX = 64
 TAPS_MAX = 64
+FORM_TAPS_MAX = 1024
+AGAIN_MAX = 64
+DELAY_MAX = 65536
 SAMPLES_MAX = 67108864
 BOUND_MAX = 65536
 PHASES_MAX = 4611686018427387904
@@ -263,10 +266,15 @@ class TooBig(Error, OverflowError):
 
 
 class TapsError(Error, ValueError):
-    """A filter has 1 to 64 taps of at most 2**31 - 1, and a shift of at most 62."""
+    """A filter has 1 to 1,024 taps, and at most 64 for what it put, of at most 2**31 - 1, a shift
+    of at most 62, a delay of at most 65,536, adds at most 2**62, and has no clamp whose low end is
+    above its high end."""
 
     def __str__(self) -> str:
-        return "a filter has 1 to 64 taps of at most 2**31 - 1, and a shift of at most 62"
+        return (
+            "a filter has 1 to 1024 taps, and at most 64 again, of at most 2**31 - 1, a shift of at"
+            " most 62, a delay of at most 65536, and adds at most 2**62"
+        )
 
 
 class Values(dict[str, NDArray[numpy.int64]]):
@@ -464,6 +472,18 @@ class _Fault(ctypes.Structure):
     ]
 
 
+class _Form(ctypes.Structure):
+    _fields_ = [
+        ("shift", ctypes.c_uint32),
+        ("single", ctypes.c_uint32),
+        ("plus", ctypes.c_int64),
+        ("delay", ctypes.c_size_t),
+        ("again", ctypes.c_size_t),
+        ("low", ctypes.c_int64),
+        ("high", ctypes.c_int64),
+    ]
+
+
 class _Counts(ctypes.Structure):
     _fields_ = [(it, ctypes.c_size_t) for it in Counts._fields]
 
@@ -522,12 +542,12 @@ def _load():
     text = [ctypes.c_char_p, ctypes.c_size_t]
     lib.phase_check.argtypes = text + [ctypes.POINTER(_Counts)] + fault
     lib.phase_eval.argtypes = text + array * 5 + fault
-    filtered = array + [ctypes.c_uint32] + array * 2
-    lib.phase_fir.argtypes = filtered + array + [ctypes.POINTER(ctypes.c_size_t)]
-    lib.phase_fir_in_place.argtypes = filtered + [ctypes.POINTER(ctypes.c_size_t)]
+    filtered = array + [ctypes.POINTER(_Form)] + array * 3
+    lib.phase_fir_with.argtypes = filtered + array + [ctypes.POINTER(ctypes.c_size_t)]
+    lib.phase_fir_with_in_place.argtypes = filtered + [ctypes.POINTER(ctypes.c_size_t)]
     lib.phase_names.argtypes = text + array + [ctypes.POINTER(ctypes.c_size_t)] + fault
     lib.phase_all_names.argtypes = lib.phase_names.argtypes
-    for name in ("check", "eval", "fir", "fir_in_place", "names", "all_names"):
+    for name in ("check", "eval", "fir_with", "fir_with_in_place", "names", "all_names"):
         getattr(lib, "phase_" + name).restype = ctypes.c_int32
     _load_phasers(lib, array)
     return lib
@@ -620,6 +640,11 @@ class Fir:
     far back, divided by 2 to the power of the shift and rounded down. Calls may come from any
     thread, and go one by one; one within another of the same thread gets a RuntimeError.
 
+    `plus` is added to the sum before it is shifted, and `delay` is how far back the sample is that
+    the first tap weighs. The taps of `again` weigh what the filter put, the first of them the value
+    before: scipy's `-a[1:]`, times 2**shift. `single` is NEG, ABS, HALVE or a `Clamp`, applied
+    behind the shift and before the range is looked at; `clamp=(low, high)` is that of a clamp.
+
     It raises TapsError where there is no such filter. A block raises TooBig, whose `values` are
     right, and the filter then stands where it stood.
 
@@ -629,14 +654,41 @@ class Fir:
     array([1, 3, 5])
     >>> sums([4])
     array([7])
+    >>> saturating = phase.Fir([1], again=[1], clamp=(-9, 9))
+    >>> saturating([4, 4, 4, -1])
+    array([4, 8, 9, 8])
     """
 
-    def __init__(self, taps: ArrayLike, shift: int = 0):
-        self.taps, self.shift = _whole(taps, _TAPS).copy(), operator.index(shift)
-        self.taps.flags.writeable = False
-        if not 0 <= self.shift < 2**32:
+    def __init__(
+        self,
+        taps: ArrayLike,
+        shift: int = 0,
+        *,
+        plus: int = 0,
+        delay: int = 0,
+        again: ArrayLike = (),
+        single: Union[int, str, Clamp, None] = None,
+        clamp: Optional[tuple[int, int]] = None,
+    ):
+        if clamp is not None:
+            if single is not None:
+                raise TypeError("a filter has one single: it is clamp, or another")
+            single = Clamp(*clamp)
+        ahead, again = _whole(taps, _TAPS), _whole(again, _TAPS)
+        self.taps, self.again = ahead.copy(), again.copy()
+        self.shift, self.plus = operator.index(shift), operator.index(plus)
+        self.delay, self.single = operator.index(delay), single
+        numbers = _single(single)
+        few = 0 <= self.shift < 2**32 and abs(self.plus) < 2**63 and 0 <= self.delay <= DELAY_MAX
+        if not few or not 1 <= len(ahead) <= FORM_TAPS_MAX:
             raise TapsError
-        self._state = numpy.zeros(max(len(self.taps) - 1, 0), numpy.int64)
+        for row in (self.taps, self.again):
+            row.flags.writeable = False
+        self._all = numpy.concatenate((ahead, again))
+        number, low, high = numbers
+        self._form = _Form(self.shift, number, self.plus, self.delay, len(again), low, high)
+        self._state = numpy.zeros(self.delay + len(ahead), numpy.int64)
+        self._puts = numpy.zeros(len(again), numpy.int64)
         self._lock = threading.RLock()
         # A block of no sample tells whether there is such a filter.
         self([])
@@ -645,20 +697,20 @@ class Fir:
         """The value at each sample of a block."""
         block = _whole(samples)
         out = numpy.empty_like(block)
-        self._filter(_lib.phase_fir, block, out)
+        self._filter(_lib.phase_fir_with, block, out)
         return out
 
     def in_place(self, block: NDArray[numpy.int64]) -> None:
         """Filters a row of int64 without gaps, and writes the values over its samples. At TooBig
         the values before it are written, and the samples behind them stay."""
-        self._filter(_lib.phase_fir_in_place, _row(block))
+        self._filter(_lib.phase_fir_with_in_place, _row(block))
 
     def _filter(self, call, *rows):
         done = ctypes.c_size_t()
-        lent = [word for row in rows for word in (row.ctypes.data, len(row))]
         with _alone(self._lock):
-            state = self._state.ctypes.data, len(self._state)
-            status = call(self.taps.ctypes.data, len(self.taps), self.shift, *state, *lent, done)
+            rows_lent = (self._state, self._puts, *rows)
+            lent = [word for row in rows_lent for word in (row.ctypes.data, len(row))]
+            status = call(self._all.ctypes.data, len(self._all), self._form, *lent, done)
         if status == E_TAPS:
             raise TapsError
         if status == E_TOO_BIG:
@@ -667,17 +719,24 @@ class Fir:
             raise why
         _done(status)
 
+    def _options(self):
+        """What it does beside weighing samples and shifting."""
+        again = self.again.tolist()
+        options = {"plus": self.plus, "delay": self.delay, "again": again, "single": self.single}
+        return {name: it for name, it in options.items() if it not in (0, [], None)}
+
     def __repr__(self) -> str:
-        return f"Fir({self.taps.tolist()}, shift={self.shift})"
+        more = "".join(f", {name}={it!r}" for name, it in self._options().items())
+        return f"Fir({self.taps.tolist()}, shift={self.shift}{more})"
 
     def __getstate__(self):
         with _alone(self._lock):
-            return self.taps, self.shift, self._state.copy()
+            return self.taps, self.shift, self._options(), self._state.copy(), self._puts.copy()
 
     def __setstate__(self, whole):
-        self.taps, self.shift, self._state = whole
-        self.taps.flags.writeable = False
-        self._lock = threading.RLock()
+        taps, shift, options, state, puts = whole
+        self.__init__(taps, shift, **options)
+        self._state, self._puts = state, puts
 
 
 class Phaser:

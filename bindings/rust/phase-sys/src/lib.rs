@@ -87,6 +87,9 @@ pub const PHASE_CLAMP: u32 = 4;
 pub const PHASE_PHASERS_MAX: usize = 64;
 pub const PHASE_TASKS_MAX: usize = 64;
 pub const PHASE_TAPS_MAX: usize = 64;
+pub const PHASE_FORM_TAPS_MAX: usize = 1024;
+pub const PHASE_AGAIN_MAX: usize = 64;
+pub const PHASE_DELAY_MAX: usize = 65536;
 pub const PHASE_SAMPLES_MAX: usize = 67108864;
 pub const PHASE_BOUND_MAX: u64 = 65536;
 pub const PHASE_PHASES_MAX: u64 = 4611686018427387904;
@@ -121,6 +124,26 @@ pub struct PhaseCounts {
     pub sources: usize,
     /// The tasks that are sinks.
     pub sinks: usize,
+}
+
+/// What a filter does beside weighing its newest samples.
+#[repr(C)]
+#[derive(Clone, Copy, Debug, Default, PartialEq, Eq, Hash)]
+pub struct PhaseFirForm {
+    /// By how many bits each sum is shifted down.
+    pub shift: u32,
+    /// The number of the single that is applied behind the shift, or of none.
+    pub single: u32,
+    /// What is added to each sum before it is shifted.
+    pub plus: i64,
+    /// How far back the sample is that the first tap weighs.
+    pub delay: usize,
+    /// How many of the taps, the last ones, weigh what the filter put.
+    pub again: usize,
+    /// The low end of a clamp.
+    pub low: i64,
+    /// The high end of a clamp.
+    pub high: i64,
 }
 
 /// The place of a phaser, which has none while all of it is zero.
@@ -222,6 +245,38 @@ unsafe extern "C" {
         shift: u32,
         state: *mut i64,
         state_len: usize,
+        block: *mut i64,
+        block_len: usize,
+        done: *mut usize,
+    ) -> i32;
+
+    /// # Safety
+    /// As of `phase_check`.
+    pub fn phase_fir_with(
+        taps: *const i64,
+        taps_len: usize,
+        form: *const PhaseFirForm,
+        state: *mut i64,
+        state_len: usize,
+        puts: *mut i64,
+        puts_len: usize,
+        block: *const i64,
+        block_len: usize,
+        out: *mut i64,
+        out_len: usize,
+        done: *mut usize,
+    ) -> i32;
+
+    /// # Safety
+    /// As of `phase_check`.
+    pub fn phase_fir_with_in_place(
+        taps: *const i64,
+        taps_len: usize,
+        form: *const PhaseFirForm,
+        state: *mut i64,
+        state_len: usize,
+        puts: *mut i64,
+        puts_len: usize,
         block: *mut i64,
         block_len: usize,
         done: *mut usize,

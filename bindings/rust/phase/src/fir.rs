@@ -1,4 +1,5 @@
 //! A filter that goes on from block to block.
+use crate::phaser::{Single, numbers_of};
 use phase_sys::*;
 use std::fmt;
 
@@ -6,7 +7,8 @@ use std::fmt;
 #[derive(Clone, Copy, Debug, PartialEq, Eq)]
 #[non_exhaustive]
 pub enum FirError {
-    /// There are 1 to 64 taps of a magnitude of at most 2^31 - 1, and a shift is at most 62.
+    /// There are 1 to 1,024 taps for samples, and at most 64 for what the filter put, of a magnitude
+    /// of at most 2^31 - 1; or a number of the form is past its limit.
     Taps,
     /// The output is shorter than the block.
     Room,
@@ -22,7 +24,7 @@ pub enum FirError {
 impl fmt::Display for FirError {
     fn fmt(&self, f: &mut fmt::Formatter<'_>) -> fmt::Result {
         match self {
-            FirError::Taps => f.write_str("no filter has these taps and this shift"),
+            FirError::Taps => f.write_str("no filter has these taps, or this shift or form"),
             FirError::Room => f.write_str("the output is shorter than the block"),
             FirError::TooBig { done } => write!(f, "value {done} of a block is out of range"),
             FirError::OutOfMemory => f.write_str("out of memory"),
@@ -32,10 +34,30 @@ impl fmt::Display for FirError {
 
 impl std::error::Error for FirError {}
 
-/// A filter with a finite impulse response, which goes on where the block before ended.
+/// What a filter does beside weighing its newest samples. The default does no more.
+///
+/// The value at a sample is the sum of each tap times the sample so far back, and of each tap of
+/// `again` times the value that the filter put so far back, from the one before on. `plus` is added,
+/// the sum is divided by 2 to the power of `shift` and rounded down, and `single` is applied before
+/// the range is looked at, so that a clamp saturates.
+#[derive(Clone, Debug, Default, PartialEq, Eq)]
+pub struct FirForm {
+    /// By how many bits each sum is shifted down: 62 at most.
+    pub shift: u32,
+    /// What is added to each sum before: a magnitude of 2^62 at most.
+    pub plus: i64,
+    /// How far back the sample is that the first tap weighs: 65,536 samples at most.
+    pub delay: usize,
+    /// The taps that weigh what the filter put, 64 at most.
+    pub again: Vec<i64>,
+    /// What is applied to each value.
+    pub single: Option<Single>,
+}
+
+/// A filter that goes on where the block before ended.
 ///
 /// The value at a sample is the sum of each tap times the sample so far back, divided by 2 to the
-/// power of the shift and rounded down.
+/// power of the shift and rounded down; [FirForm] has more.
 ///
 /// ```
 /// let mut sums = phase::Fir::new(&[1, 1], 0)?;
@@ -49,20 +71,54 @@ impl std::error::Error for FirError {}
 /// ```
 #[derive(Clone, Debug, PartialEq, Eq)]
 pub struct Fir {
+    // Those for samples, and behind them those for what it put.
     taps: Vec<i64>,
-    shift: u32,
+    form: PhaseFirForm,
     state: Vec<i64>,
+    puts: Vec<i64>,
 }
 
 impl Fir {
-    /// Returns a filter before its first sample.
+    /// Returns a filter of these taps and this shift, before its first sample.
     ///
     /// # Errors
     ///
     /// It is refused as `Taps` or `OutOfMemory`.
     pub fn new(taps: &[i64], shift: u32) -> Result<Fir, FirError> {
-        let state = vec![0; taps.len().saturating_sub(1)];
-        let mut fir = Fir { taps: taps.to_vec(), shift, state };
+        Fir::with(taps, &FirForm { shift, ..FirForm::default() })
+    }
+
+    /// Returns a filter of these taps and this form, before its first sample.
+    ///
+    /// # Errors
+    ///
+    /// It is refused as `Taps` or `OutOfMemory`.
+    ///
+    /// # Example
+    ///
+    /// ```
+    /// use phase::{Fir, FirForm, Single};
+    ///
+    /// let single = Some(Single::Clamp { low: -9, high: 9 });
+    /// let mut sum = Fir::with(&[1], &FirForm { again: vec![1], single, ..FirForm::default() })?;
+    /// let mut block = [4, 4, 4, -1];
+    /// sum.filter_in_place(&mut block)?;
+    /// assert_eq!(block, [4, 8, 9, 8]);
+    /// # Ok::<(), phase::FirError>(())
+    /// ```
+    pub fn with(taps: &[i64], form: &FirForm) -> Result<Fir, FirError> {
+        let (single, low, high) = numbers_of(form.single);
+        let (shift, plus, delay, again) = (form.shift, form.plus, form.delay, form.again.len());
+        let mut fir = Fir {
+            taps: [taps, &form.again].concat(),
+            form: PhaseFirForm { shift, single, plus, delay, again, low, high },
+            state: Vec::new(),
+            puts: vec![0; again],
+        };
+        if taps.is_empty() || delay > PHASE_DELAY_MAX {
+            return Err(FirError::Taps);
+        }
+        fir.state.resize(delay + taps.len(), 0);
         // A block of no sample tells whether there is such a filter.
         fir.filter_in_place(&mut [])?;
         Ok(fir)
@@ -78,12 +134,14 @@ impl Fir {
         // SAFETY: each pointer and length are those of one slice, and what is written is borrowed
         // for this call alone.
         let status = unsafe {
-            phase_fir(
+            phase_fir_with(
                 self.taps.as_ptr(),
                 self.taps.len(),
-                self.shift,
+                &self.form,
                 self.state.as_mut_ptr(),
                 self.state.len(),
+                self.puts.as_mut_ptr(),
+                self.puts.len(),
                 block.as_ptr(),
                 block.len(),
                 out.as_mut_ptr(),
@@ -114,12 +172,14 @@ impl Fir {
         let mut done = 0;
         // SAFETY: as above.
         let status = unsafe {
-            phase_fir_in_place(
+            phase_fir_with_in_place(
                 self.taps.as_ptr(),
                 self.taps.len(),
-                self.shift,
+                &self.form,
                 self.state.as_mut_ptr(),
                 self.state.len(),
+                self.puts.as_mut_ptr(),
+                self.puts.len(),
                 block.as_mut_ptr(),
                 block.len(),
                 &mut done,
