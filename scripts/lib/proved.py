@@ -34,9 +34,10 @@ sums of the crates below it. docs/PROOFS.md says what the contracts promise.
 What is believed, and not proved: the toolchain (the prover's kernel, its compiler, its statements
 of the C library and of its own crates), the compiler and linker named above, the C library and the
 system; that the program looks at the processor rightly, by which its code for any or that for newer
-ones goes (scripts/lib/newer.c). Of libphase: how calls wait (bindings/c/phase_wait.c), and what the headers, the crates and
-the files of Python do around the proved calls; these are tested. Behind the crates stands each file
-of the repository that is believed, with its SHA-256, and each that makes an archive.
+ones goes (scripts/lib/newer.c). Of libphase: how calls wait (bindings/c/phase_wait.c), and what the
+headers, the crates and the files of Python do around the proved calls; these are tested. Behind the
+crates stands each file of the repository that is believed, with its SHA-256, and each that makes an
+archive.
 
 phase.spdx.json lists the crates of the kit that the program and the libraries contain. The kit's
 own come with no licence, and are NOASSERTION there.

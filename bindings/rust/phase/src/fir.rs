@@ -7,8 +7,8 @@ use std::fmt;
 #[derive(Clone, Copy, Debug, PartialEq, Eq)]
 #[non_exhaustive]
 pub enum FirError {
-    /// There are 1 to 1,024 taps for samples, and at most 64 for what the filter put, of a magnitude
-    /// of at most 2^31 - 1; or a number of the form is past its limit.
+    /// There are 1 to 1,024 taps for samples, and at most 64 for what the filter put, of a
+    /// magnitude of at most 2^31 - 1; or a number of the form is past its limit.
     Taps,
     /// The output is shorter than the block.
     Room,
@@ -37,9 +37,9 @@ impl std::error::Error for FirError {}
 /// What a filter does beside weighing its newest samples. The default does no more.
 ///
 /// The value at a sample is the sum of each tap times the sample so far back, and of each tap of
-/// `again` times the value that the filter put so far back, from the one before on. `plus` is added,
-/// the sum is divided by 2 to the power of `shift` and rounded down, and `single` is applied before
-/// the range is looked at, so that a clamp saturates.
+/// `again` times the value that the filter put so far back, from the one before on. `plus` is
+/// added, the sum is divided by 2 to the power of `shift` and rounded down, and `single` is applied
+/// before the range is looked at, so that a clamp saturates.
 #[derive(Clone, Debug, Default, PartialEq, Eq)]
 pub struct FirForm {
     /// By how many bits each sum is shifted down: 62 at most.
