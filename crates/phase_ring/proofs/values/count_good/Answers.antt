@@ -10,11 +10,11 @@ use Rattle.phase_accum.specs.Sends.{IsSend}
 use Rattle.phase_accum.proofs.Parts.{send-same}
 use Rattle.phase_ring.proofs.Blocks.{not_too_big}
 use Rattle.phase_ring.proofs.Held.{AreSends-at}
-use Rattle.phase_core.specs.Blocks.{is_not_too_big}
-use Rattle.phase_core.specs.Plain.{plain_value}
-use Rattle.phase_core.proofs.plain.ahead.count_good.Given.{Over}
-use Rattle.phase_core.proofs.plain.ahead.count_good.Goals.{After-finish}
-use Rattle.phase_core.proofs.plain.ahead.count_good.Goals as goal
+use Rattle.phase_ring.specs.Blocks.{is_not_too_big}
+use Rattle.phase_ring.specs.Restarts.{plain_value}
+use Rattle.phase_ring.proofs.values.count_good.Given.{Over}
+use Rattle.phase_ring.proofs.values.count_good.Goals.{After-finish}
+use Rattle.phase_ring.proofs.values.count_good.Goals as goal
 
 stops_at : {A : Type 0} (op : Operation A) (values : List ℤ) (n : ℕ) → n ≤ length values
     → ((k : ℕ) → k < n → is_not_too_big (plain_value op (get_or values k (pos 0))) ≡ true)

@@ -4,13 +4,13 @@ use Rattle.std.specs.List.{take_while}
 use Rattle.std.proofs.lemmas.List.{length-map, map-append}
 use Rattle.phase_accum.proofs.Parts.{AreSends-append_left, AreSends-append_right, AreSends-take, AreSends-drop}
 use Rattle.phase_accum.specs.Sends.{AreSends}
-use Rattle.phase_core.specs.Blocks.{is_not_too_big}
-use Rattle.phase_core.specs.Plain.{plain_value}
-use Rattle.phase_core.proofs.GoodAhead.{good-few, good_in_first, good_in_second}
-use Rattle.phase_core.proofs.TwoSlices.{many_first, taken_in_two}
-use Rattle.phase_core.proofs.plain.Plain.good_from.Given.{Over}
-use Rattle.phase_core.proofs.plain.Plain.good_from.Goals.{After-count_good-good}
-use Rattle.phase_core.proofs.plain.Plain.good_from.Goals as goal
+use Rattle.phase_ring.specs.Blocks.{is_not_too_big}
+use Rattle.phase_ring.specs.Restarts.{plain_value}
+use Rattle.phase_ring.proofs.GoodParts.{good-few, good_in_first, good_in_second}
+use Rattle.phase_ring.proofs.TwoSlices.{many_first, taken_in_two}
+use Rattle.phase_ring.proofs.values.Values.good_from.Given.{Over}
+use Rattle.phase_ring.proofs.values.Values.good_from.Goals.{After-count_good-good}
+use Rattle.phase_ring.proofs.values.Values.good_from.Goals as goal
 
 pub count_good-good-requires : goal.count_good-good-requires
 count_good-good-requires g c =
@@ -39,12 +39,12 @@ second g c =
 
 in_two : (g : Over) (c : After-count_good-good g) → let f = plain_value g.A.Accumulate.operation in
     map f (take c.args.count (drop (c.args.phase - c.args.self.now.base)
-    c.args.self.now.values.items)) ≡ map f (first g c) ++ map f (second g c)
+    c.args.self.now.queue.items)) ≡ map f (first g c) ++ map f (second g c)
 in_two g c =
     let f = plain_value g.A.Accumulate.operation in
     let low = c.requires.low in
     ap (map f) (taken_in_two c.as_slices.result.0.now c.as_slices.result.1.now
-    c.args.self.now.values.items (c.args.phase - c.args.self.now.base) c.args.count
+    c.args.self.now.queue.items (c.args.phase - c.args.self.now.base) c.args.count
     c.min-in_front.result c.min-many.result c.as_slices.ensures c.min-in_front.ensures
     (omega (arith, c.requires.complete)) c.min-many.ensures)
     ∙ map-append f (first g c) (second g c)
@@ -54,7 +54,7 @@ long : (g : Over) (c : After-count_good-good g)
 long g c =
     let low = c.requires.low in
     length-map (first g c) (plain_value g.A.Accumulate.operation)
-    ∙ many_first c.as_slices.result.0.now c.as_slices.result.1.now c.args.self.now.values.items
+    ∙ many_first c.as_slices.result.0.now c.as_slices.result.1.now c.args.self.now.queue.items
     (c.args.phase - c.args.self.now.base) c.args.count c.min-in_front.result c.min-many.result
     c.as_slices.ensures c.min-in_front.ensures (omega (arith, c.requires.complete))
     c.min-many.ensures

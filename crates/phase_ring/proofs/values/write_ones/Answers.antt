@@ -3,9 +3,9 @@ use Rattle.std.proofs.Common.{◌<◌, pos, length, get_or, ◌∙◌, ap}
 use Rattle.phase_ring.proofs.Held.{AreSends-at}
 use Rattle.phase_accum.specs.Sends.{IsSend}
 use Rattle.phase_accum.proofs.Parts.{send-same}
-use Rattle.phase_core.specs.Plain.{plain_value}
-use Rattle.phase_core.proofs.PlainWaits.{ones_fill}
-use Rattle.phase_core.proofs.plain.values.write_ones.Goals as goal
+use Rattle.phase_ring.specs.Restarts.{plain_value}
+use Rattle.phase_ring.proofs.Ones.{ones_fill}
+use Rattle.phase_ring.proofs.values.write_ones.Goals as goal
 
 pub of-requires : goal.of-requires
 of-requires g c =

@@ -1,8 +1,8 @@
 -- None of the values so far is too big.
 use Rattle.std.proofs.Common.{◌≡◌, ℕ, pos, ◌<◌, true, get_or}
-use Rattle.phase_core.specs.Blocks.{is_not_too_big}
-use Rattle.phase_core.specs.Plain.{plain_value}
-use Rattle.phase_core.proofs.plain.ahead.count_good.Given as goal
+use Rattle.phase_ring.specs.Blocks.{is_not_too_big}
+use Rattle.phase_ring.specs.Restarts.{plain_value}
+use Rattle.phase_ring.proofs.values.count_good.Given as goal
 
 abbrev pub invariant-loop-k : goal.invariant-loop-k
 invariant-loop-k g l =

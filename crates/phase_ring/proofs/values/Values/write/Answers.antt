@@ -2,9 +2,9 @@
 use Rattle.std.proofs.Common.{◌-◌, sym, subst, arith}
 use Rattle.phase_accum.proofs.Parts.{AreSends-append_left, AreSends-append_right, AreSends-take, AreSends-drop}
 use Rattle.phase_accum.specs.Sends.{AreSends}
-use Rattle.phase_core.specs.Plain.{plain_value}
-use Rattle.phase_core.proofs.TwoSlices.{written_in_two}
-use Rattle.phase_core.proofs.plain.Plain.write.Goals as goal
+use Rattle.phase_ring.specs.Restarts.{plain_value}
+use Rattle.phase_ring.proofs.TwoSlices.{written_in_two}
+use Rattle.phase_ring.proofs.values.Values.write.Goals as goal
 
 pub write_ones-requires-clause-sends : goal.write_ones-requires-clause-sends
 write_ones-requires-clause-sends g c =
@@ -21,7 +21,7 @@ write_ones-requires-2-clause-sends g c =
 pub returns : goal.returns
 returns g c =
     let low = c.requires.low in
-    written_in_two c.as_slices.result.0.now c.as_slices.result.1.now c.args.self.now.values.items
+    written_in_two c.as_slices.result.0.now c.as_slices.result.1.now c.args.self.now.queue.items
     (c.args.phase - c.args.self.now.base) c.args.count c.min-in_front.result c.min-many.result
     c.as_slices.ensures c.min-in_front.ensures (omega (arith, c.requires.complete))
     c.min-many.ensures (plain_value g.A.Accumulate.operation) c.args.out.now c.write_ones.new.out
