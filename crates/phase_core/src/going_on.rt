@@ -21,7 +21,10 @@ pub fn go_on<A: Accumulate>(
     ensures { HasGoneOn registry.old registry.new store.old store.new task phases }
 {
     registry.waited(task, phases);
-    if !store.is_plain || entry.wait_phase != store.values.base {
+    if !store.is_plain {
+        return;
+    }
+    if entry.wait_phase != store.values.base {
         return;
     }
     let Some(slowest) = registry.least_wait() else {
