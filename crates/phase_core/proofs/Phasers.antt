@@ -1,7 +1,7 @@
 -- What a phaser shows, on slots or of values alone.
 use Rattle.std.proofs.Common.{◌≡◌, ℕ, zero, suc, ◌+◌, ◌-◌, ◌<◌, ◌≤◌, true, false, Bool, ℤ, List, [], ◌∷◌, ◌++◌, Some, map, length, replicate, unwrap_or, refl, sym, ap, subst, ◌∙◌, arith, ⊎_elim}
 use Rattle.std.specs.Prelude.{IsSome, if◌then◌else◌}
-use Rattle.std.proofs.lemmas.Bool.{cases_eq, cases_lt, true≢false}
+use Rattle.std.proofs.lemmas.Bool.{cases_eq, true≢false}
 use Rattle.std.proofs.lemmas.List.{map-append}
 use Rattle.std.proofs.lemmas.Simd.{map-map}
 use Rattle.phase_history.proofs.Each.{Each, least_low}
@@ -9,10 +9,9 @@ use Rattle.phase_accum.specs.Operations.{Operation}
 use Rattle.phase_history.specs.Histories.{History}
 use Rattle.phase_base.specs.Modes.{mode_waits}
 use Rattle.phase_base.specs.declared.entry.Entry.{Entry}
-use Rattle.phase_base.specs.Members.{Members, entry_of, least, signal_phases, wait_phases}
+use Rattle.phase_base.specs.Members.{Members, entry_of, least, wait_phases}
 use Rattle.phase_registry.specs.Rosters.{Roster}
 use Rattle.phase_ring.specs.declared.store.Store.{Store}
-use Rattle.phase_ring.specs.Boards.{IsRingAt}
 use Rattle.phase_ring.specs.Restarts.{one_slot, ring_of_ones}
 use Rattle.phase_ring.specs.Rings.{Ring}
 use Rattle.phase_ring.specs.Slots.{empty_slot}

@@ -1,24 +1,24 @@
 -- Waits of a phaser that keeps values alone.
-use Rattle.std.proofs.Common.{◌≡◌, ℕ, zero, suc, ◌+◌, ◌-◌, ◌<◌, ◌≤◌, ◌&&◌, true, ℤ, pos, List, [], ◌∷◌, ◌++◌, Option, Some, None, Ok, length, map, take, drop, get_or, set, min, unwrap_or, refl, sym, ap, subst, ◌∙◌, arith, ⊎_elim}
-use Rattle.std.specs.Prelude.{is_some, slice_range, IsSome, slice_index_or}
-use Rattle.std.specs.List.{All, range_with_len}
-use Rattle.std.proofs.lemmas.Bool.{cases_eq, cases_lt, le-leb, true≢false, not-false}
+use Rattle.std.proofs.Common.{◌≡◌, ℕ, ◌+◌, ◌-◌, ◌<◌, ◌≤◌, true, ℤ, List, [], ◌∷◌, Some, None, length, drop, unwrap_or, refl, sym, ap, subst, ◌∙◌, arith, ⊎_elim}
+use Rattle.std.specs.Prelude.{IsSome}
+use Rattle.std.specs.List.{All}
+use Rattle.std.proofs.lemmas.Bool.{cases_lt}
 use Rattle.std.proofs.lemmas.Option.{same_Some}
-use Rattle.std.proofs.lemmas.List.{append_assoc, drop_more, get_or-drop, length-drop, length-map, length-take, map_more}
+use Rattle.std.proofs.lemmas.List.{length-drop}
 use Rattle.circular_buffer.specs.Buffer.{Buffer}
 use Rattle.phase_history.proofs.Each.{Each, least_low, least_or_high}
 use Rattle.phase_history.proofs.MemberLemmas.{entry_of-changed_same, signal_phases-waited}
 use Rattle.phase_accum.proofs.Parts.{AreSends-drop}
 use Rattle.phase_accum.specs.Sends.{AreSends}
 use Rattle.phase_history.specs.declared.event.Event.TheVariants.{Waited}
-use Rattle.phase_history.specs.Histories.{History, done_of, members_of, top_of, wait_phase}
+use Rattle.phase_history.specs.Histories.{History, done_of, top_of}
 use Rattle.phase_history.specs.Refusals.{wait_refusal}
 use Rattle.phase_base.specs.Limits.{Limits}
 use Rattle.phase_base.specs.Modes.{mode_waits}
 use Rattle.phase_base.specs.declared.entry.Entry.{Entry}
 use Rattle.phase_base.specs.Members.{Members, changed_at, entry_of, least, lesser, signal_phases, wait_phases, waited}
 use Rattle.phase_registry.specs.Rosters.{Roster, roster}
-use Rattle.phase_ring.specs.Standings.{count_of, one_if_same}
+use Rattle.phase_ring.specs.Standings.{count_of}
 use Rattle.phase_core.specs.Cores.{StandsFor}
 use Rattle.phase_core.proofs.LeastCounts.{least_by_counts, low_by_counts, one-other, waiter-counted, waiters-waited}
 use Rattle.phase_accum.specs.Operations.{Operation}

@@ -1,33 +1,30 @@
 -- Slots that stand aside, and slots that are set anew for values that were kept alone.
-use Rattle.std.proofs.Common.{◌≡◌, ℕ, zero, suc, ◌+◌, ◌-◌, ◌<◌, ◌≤◌, true, ℤ, List, [], ◌∷◌, ◌++◌, Option, Some, None, min, map, length, replicate, unwrap_or, refl, sym, ap, subst, ◌∙◌, arith, inl, inr, ⊎_elim}
+use Rattle.std.proofs.Common.{◌≡◌, ℕ, zero, suc, ◌+◌, ◌-◌, ◌<◌, ◌≤◌, true, ℤ, List, [], ◌∷◌, Option, Some, None, min, map, length, replicate, unwrap_or, refl, sym, ap, subst, ◌∙◌, arith, inl, inr, ⊎_elim}
 use Rattle.std.specs.List.{All}
 use Rattle.std.specs.Prelude.{slice_get}
 use Rattle.std.proofs.lemmas.Bool.{cases_eq, cases_lt}
 use Rattle.std.proofs.lemmas.Option.{same_Some}
-use Rattle.std.proofs.lemmas.List.{length-map, map-append}
 use Rattle.std.proofs.lemmas.Simd.{map-map}
 use Rattle.phase_history.proofs.Each.{Each, Each-of_picked, least_low}
 use Rattle.phase_accum.specs.Operations.{Operation}
 use Rattle.phase_accum.specs.declared.single.Single.{Single}
-use Rattle.phase_history.specs.declared.event.Event.TheVariants.{Made, Dropped}
-use Rattle.phase_history.proofs.Standstill.{limits_of}
-use Rattle.phase_base.specs.Limits.{AreLimits, Limits}
+use Rattle.phase_base.specs.Limits.{Limits}
 use Rattle.phase_base.specs.Modes.{mode_signals, mode_waits}
 use Rattle.phase_base.specs.declared.entry.Entry.{Entry}
 use Rattle.phase_base.specs.declared.member.Member.{Member}
 use Rattle.phase_base.specs.Members.{Members, entry_of, least, lesser, signal_phases, wait_phases}
-use Rattle.phase_registry.specs.Rosters.{Roster, roster}
+use Rattle.phase_registry.specs.Rosters.{Roster}
 use Rattle.phase_ring.specs.declared.board.Board.{Board}
 use Rattle.phase_ring.specs.declared.role.Role.{Role}
 use Rattle.phase_ring.specs.declared.role.Role.TheVariants.{Signaller, Waiter}
 use Rattle.phase_ring.specs.Boards.{IsRingAt}
-use Rattle.phase_ring.specs.Restarts.{MayBePlaced, one_slot, ring_of_ones}
+use Rattle.phase_ring.specs.Restarts.{MayBePlaced, ring_of_ones}
 use Rattle.phase_ring.specs.Rings.{Ring, sents, standing}
-use Rattle.phase_ring.specs.Slots.{Slot, IsUnused, empty_slot, sent}
+use Rattle.phase_ring.specs.Slots.{Slot, IsUnused, sent}
 use Rattle.phase_ring.specs.Standings.{count_of, one_if_same, phase_for, takes_part}
 use Rattle.phase_core.specs.Slots.{KeptSlot}
 use Rattle.phase_core.specs.Cores.{CoreState, StandsFor, IsBoarded, IsCore, core_of, sent_of}
-use Rattle.phase_core.specs.Plain.{IsPlain, plain_core, plain_slot, unused_slot}
+use Rattle.phase_core.specs.Plain.{IsPlain, plain_core, unused_slot}
 use Rattle.phase_core.proofs.Boarded.{slowest_is}
 use Rattle.phase_core.proofs.Phasers.{kept_of_ones}
 use Rattle.phase_core.proofs.LeastCounts.{one-same, one-other, signaller-counted}

@@ -1,5 +1,5 @@
 -- What a wait leaves of a core over a registry and a board.
-use Rattle.std.proofs.Common.{◌≡◌, ℕ, ◌+◌, ◌<◌, ◌≤◌, ◌⊎◌, true, Bool, [], ◌∷◌, Option, Some, None, Ok, length, unwrap_or, refl, sym, ◌∙◌, ap, arith, ⊎_elim, inl, inr, zero, suc, ◌-◌, cond, map, take, drop, min, List, ◌++◌, Result, ℤ}
+use Rattle.std.proofs.Common.{◌≡◌, ℕ, ◌+◌, ◌<◌, ◌≤◌, true, Bool, ◌∷◌, Option, Some, None, Ok, length, unwrap_or, refl, sym, ◌∙◌, ap, arith, ⊎_elim, inl, inr, zero, suc, ◌-◌, cond, map, take, drop, min, List, ◌++◌, Result, ℤ}
 use Rattle.std.specs.Prelude.{is_some, slice_range}
 use Rattle.std.proofs.lemmas.Option.{same_Some}
 use Rattle.phase_base.specs.Modes.{mode_waits}
@@ -20,21 +20,17 @@ use Rattle.phase_history.proofs.MemberLemmas.{signal_phases-waited}
 use Rattle.phase_registry.specs.Rosters.{Roster, roster}
 use Rattle.phase_ring.specs.declared.board.Board.{Board}
 use Rattle.phase_ring.specs.declared.role.Role.TheVariants.{Signaller, Waiter}
-use Rattle.phase_ring.specs.Slots.{Slot, slot_value}
-use Rattle.phase_ring.specs.Rings.{slot_at, standing, sents, KeepsSlots}
+use Rattle.phase_ring.specs.Rings.{standing, sents, KeepsSlots}
 use Rattle.phase_ring.specs.Standings.{one_if_same, count_of}
-use Rattle.phase_ring.specs.Boards.{IsRingAt, IsBoard}
-use Rattle.phase_ring.specs.Calls.{HasWaited}
+use Rattle.phase_ring.specs.Boards.{IsRingAt}
 use Rattle.phase_ring.proofs.Slots.{slot_at-some}
-use Rattle.phase_ring.proofs.Kept.{standing-within}
-use Rattle.phase_core.specs.Cores.{StandsFor, IsBoarded, IsCore, sent_of, core_of, core_with}
+use Rattle.phase_core.specs.Cores.{StandsFor, IsBoarded, sent_of, core_of, core_with}
 use Rattle.phase_core.proofs.CoreSteps.{waits_stands, kept_value}
 use Rattle.phase_core.proofs.LeastCounts.{waiters-waited, two_counts, wait_phases-few, waiter-counted}
 use Rattle.phase_core.proofs.Boarded.{IsKept, slowest_is}
 use Rattle.phase_core.proofs.NewCore.{done_of_boarded, done_of_kept}
 use Rattle.phase_core.proofs.Replies.{wait_reply_is, got_value, got_ended}
 use Rattle.phase_core.proofs.RingSlots.{kept_slots, slot_kept}
-use Rattle.phase_core.proofs.SignalCore.{used_after}
 use Rattle.std.proofs.lemmas.Bool.{lt-ltb, le-ltb}
 use Rattle.phase_history.proofs.Steps.{member_entry_is}
 use Rattle.phase_ring.specs.Blocks.{value_at, value_in, block_values}

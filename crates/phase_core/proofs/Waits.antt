@@ -4,7 +4,7 @@ use Rattle.std.specs.Prelude.{is_some}
 use Rattle.phase_base.specs.Modes.{mode_waits}
 use Rattle.phase_base.specs.declared.entry.Entry.{Entry}
 use Rattle.phase_base.specs.declared.limits.TheConstants.{MEMBERS_MAX}
-use Rattle.phase_base.specs.Members.{entry_of, changed_at, signal_phases, wait_phases, least, waited}
+use Rattle.phase_base.specs.Members.{entry_of, changed_at, signal_phases, least, waited}
 use Rattle.phase_base.specs.Lists.{first_row}
 use Rattle.phase_accum.specs.Operations.{Operation}
 use Rattle.phase_history.specs.declared.event.Event.TheVariants.{Waited}
@@ -12,14 +12,14 @@ use Rattle.phase_history.specs.declared.refusal.WaitRefusal.{WaitRefusal}
 use Rattle.phase_history.specs.Histories.{History}
 use Rattle.phase_history.specs.Refusals.{wait_refusal, plain_wait_rows, wait_rows_at}
 use Rattle.phase_history.specs.Replies.{wait_reply, refused_or, got_at, wait_block_reply, got_block_at}
-use Rattle.phase_registry.specs.Rosters.{Roster, roster}
+use Rattle.phase_registry.specs.Rosters.{Roster}
 use Rattle.phase_ring.specs.declared.board.Board.{Board}
 use Rattle.phase_ring.specs.declared.store.Store.{Store}
 use Rattle.phase_ring.specs.Stores.{HasGot, IsStore, KeepsValues, MayGet, ring_of, shown}
-use Rattle.phase_core.specs.Cores.{CoreState, StandsFor, IsBoarded, IsCore, core_of}
-use Rattle.phase_core.specs.PlainCores.{HasGoneOn, IsAlone, IsPhaser, MayGoOn, core_shown}
-use Rattle.phase_core.proofs.Boarded.{IsKept, boarded_beside, waits-some, ready_to_wait}
-use Rattle.phase_core.proofs.Phasers.{kept_of, not_below, shown_off, shown_plain, slots_phaser, values_phaser}
+use Rattle.phase_core.specs.Cores.{CoreState, StandsFor, IsBoarded, core_of}
+use Rattle.phase_core.specs.PlainCores.{HasGoneOn, IsPhaser, MayGoOn, core_shown}
+use Rattle.phase_core.proofs.Boarded.{boarded_beside, waits-some, ready_to_wait}
+use Rattle.phase_core.proofs.Phasers.{kept_of, not_below, shown_off, slots_phaser, values_phaser}
 use Rattle.phase_core.proofs.PlainWaits.{alone_gone_on, stands_gone_on}
 use Rattle.phase_core.proofs.SignalCore.{used_after}
 use Rattle.phase_core.proofs.WaitCore.{Waiting, boarded_waited, few_by, stands_waited, wait_block_is, waits_reply}

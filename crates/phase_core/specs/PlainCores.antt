@@ -1,5 +1,5 @@
 -- A phaser that keeps slots, or values alone.
-use Rattle.std.specs.Prelude.{◌≡◌, ℕ, ◌+◌, ◌-◌, ◌<◌, ◌≤◌, Some, true, false, drop, length}
+use Rattle.std.specs.Prelude.{◌≡◌, ℕ, ◌+◌, ◌-◌, ◌≤◌, Some, true, false, drop, length}
 use Rattle.circular_buffer.specs.Buffer.{buffer}
 use Rattle.phase_accum.specs.Operations.{Operation}
 use Rattle.phase_base.specs.declared.entry.Entry.{Entry}

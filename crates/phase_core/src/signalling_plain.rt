@@ -44,8 +44,11 @@ impl<A: Accumulate> PhaserCore<A> {
         requires signals { mode_signals entry.mode ≡ true }
         ensures { self.new ≡ self.old }
     {
+        if self.store.is_plain {
+            return;
+        }
         let phase = entry.signal_phase;
-        if self.store.is_plain || !is_bare(&self.registry, &self.store.board, phase) {
+        if !is_bare(&self.registry, &self.store.board, phase) {
             return;
         }
         let bound = self.store.board.limits.bound();

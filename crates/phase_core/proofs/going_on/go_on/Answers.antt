@@ -1,7 +1,7 @@
 -- The slowest waiter stands where it stood, or at the least wait phase after the wait.
-use Rattle.std.proofs.Common.{◌≡◌, ◌-◌, true, false, drop, length, refl, sym, ap, ◌∙◌, arith}
+use Rattle.std.proofs.Common.{◌≡◌, ◌-◌, true, drop, length, refl, sym, ap, ◌∙◌, arith}
 use Rattle.std.proofs.lemmas.Bool.{true≢false}
-use Rattle.circular_buffer.specs.Buffer.{Buffer, buffer}
+use Rattle.circular_buffer.specs.Buffer.{buffer}
 use Rattle.phase_ring.specs.Stores.{KeepsValues}
 use Rattle.phase_core.proofs.PlainWaits.{StandsWithin, some_waits, stands_within, stays}
 use Rattle.phase_core.proofs.going_on.go_on.Given.{Over}

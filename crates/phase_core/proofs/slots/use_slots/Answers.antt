@@ -1,7 +1,6 @@
 -- The slots of the values, at which the members stand.
-use Rattle.std.proofs.Common.{◌≡◌, true, false, ◌+◌, ◌≤◌, ◌++◌, length, refl, sym, ap, subst, ◌∙◌, arith}
+use Rattle.std.proofs.Common.{◌≡◌, true, ◌++◌, sym, ap, subst, ◌∙◌}
 use Rattle.std.specs.List.{All}
-use Rattle.std.proofs.lemmas.List.{length-append}
 use Rattle.phase_accum.specs.Sends.{AreSends}
 use Rattle.phase_accum.proofs.Parts.{AreSends-append_left, AreSends-append_right}
 use Rattle.phase_base.specs.declared.member.Member.{Member}
@@ -13,8 +12,8 @@ use Rattle.phase_ring.specs.Rings.{sents}
 use Rattle.phase_ring.specs.Standings.{count_of, phase_for, takes_part}
 use Rattle.phase_core.specs.Cores.{core_of}
 use Rattle.phase_core.specs.Plain.{IsPlain, plain_core}
-use Rattle.phase_core.specs.PlainCores.{IsAlone, core_shown}
-use Rattle.phase_core.proofs.Phasers.{shown_off, shown_plain}
+use Rattle.phase_core.specs.PlainCores.{core_shown}
+use Rattle.phase_core.proofs.Phasers.{shown_plain}
 use Rattle.phase_core.proofs.Switching.{HasResumed, members_stand, resumed_core, resumed_view}
 use Rattle.phase_core.proofs.slots.use_slots.Given.{Over}
 use Rattle.phase_core.proofs.slots.use_slots.Goals as goal

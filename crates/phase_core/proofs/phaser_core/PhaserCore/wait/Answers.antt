@@ -3,8 +3,6 @@
 use Rattle.std.proofs.Common.{◌≡◌, ◌<◌, Some, None, sym, subst, ◌∙◌, arith}
 use Rattle.std.specs.Prelude.{is_some}
 use Rattle.phase_base.specs.Members.{signal_phases, least}
-use Rattle.phase_history.specs.Histories.{History}
-use Rattle.phase_history.specs.Refusals.{wait_refusal}
 use Rattle.phase_history.proofs.InRange.{wait_reply-in_range}
 use Rattle.phase_ring.specs.Stores.{shown}
 use Rattle.phase_core.specs.Cores.{CoreState, StandsFor}

@@ -9,7 +9,7 @@ use Rattle.phase_history.proofs.BlockAnswers.{wait_refusal-fewer, asked_some}
 use Rattle.phase_ring.specs.Stores.{shown}
 use Rattle.phase_core.specs.Cores.{CoreState, StandsFor}
 use Rattle.phase_core.specs.PlainCores.{core_shown}
-use Rattle.phase_core.proofs.Phasers.{Shows, phaser_shows}
+use Rattle.phase_core.proofs.Phasers.{phaser_shows}
 use Rattle.phase_core.proofs.NewCore.{done_of_kept}
 use Rattle.phase_core.proofs.WaitCore.{got_block_values, got_block_ended, values_are, block_in_range}
 use Rattle.phase_core.proofs.Waits.{Awaits, here, block_replied, is_store, may_get, may_go_on, stands_after, phaser_after}
