@@ -14,6 +14,7 @@ use Rattle.phase_ring.specs.Rings.{Ring, standing}
 use Rattle.phase_ring.specs.declared.role.Role.TheVariants.{Signaller, Waiter}
 use Rattle.phase_ring.proofs.Slots.{standing-out}
 use Rattle.phase_ring.specs.Standings.{count_of}
+use Rattle.phase_ring.specs.Boards.{IsRingAt}
 use Rattle.phase_core.specs.Cores.{IsBoarded, IsCore}
 use Rattle.phase_core.proofs.LeastCounts.{least_by_counts, done_by_counts, two_counts, signal_phases-few, wait_phases-few, signaller-counted, waiter-counted}
 
@@ -73,6 +74,23 @@ done_is op ms r bound done top b =
     (λ p low. sym (b.signallers_are p) ∙ b.kept.signals_low p low)
     (λ p high. sym (b.signallers_are p) ∙ b.kept.signals_high p high)
     (⊎_elim (λ at. inl at) (λ some. inr (let c = b.signallers_are done in omega arith)) b.done_at)
+
+-- ---- what is kept, as slots or not
+
+-- what the phases that are kept say of the members, whoever stands at the slots
+pub record IsKept {A : Type 0} (op : Operation A) (ms : Members) (r : Ring A) (bound done top : ℕ)
+    : Type 0 where
+  pub kept : IsRingAt op r bound done top
+  pub slowest : least (wait_phases ms) ≡ Some r.base
+  pub done_at : unwrap_or (least (signal_phases ms)) top ≡ done
+
+pub kept_boarded : {A : Type 0} (op : Operation A) (ms : Members) (r : Ring A) (bound done top : ℕ)
+    → IsBoarded op ms r bound done top → IsKept op ms r bound done top
+kept_boarded op ms r bound done top b = record {
+  kept = b.kept;
+  slowest = slowest_is op ms r bound done top b;
+  done_at = done_is op ms r bound done top b;
+}
 
 -- ---- what the board asks of a signal and of a wait
 

@@ -1,12 +1,10 @@
 -- How many values in range come next, and what a wait for so many is answered.
-use Rattle.std.proofs.Common.{◌≡◌, ℕ, zero, suc, ◌+◌, ◌-◌, ◌<◌, ◌≤◌, min, ℤ, List, [], ◌∷◌, ◌++◌, Result, Ok, Err, length, take, drop, slice_index_or, refl, sym, ap, cond, ◌∙◌, arith}
+use Rattle.std.proofs.Common.{◌≡◌, ℕ, zero, suc, ◌+◌, ◌-◌, ◌<◌, ◌≤◌, min, ℤ, List, [], ◌∷◌, Result, Ok, Err, length, take, drop, slice_index_or, refl, sym, ap, ◌∙◌, arith}
 use Rattle.std.specs.Prelude.{slice_range}
-use Rattle.std.specs.List.{prefix_len, range_with_len, take_while}
+use Rattle.std.specs.List.{range_with_len, take_while}
 use Rattle.std.proofs.lemmas.List.{drop_more, length-take, length-map}
 use Rattle.std.proofs.lemmas.List.FromFn.{length-range_with_len}
-use Rattle.std.proofs.lemmas.List.Folds.{length-prefix_len, prefix_len-append}
-use Rattle.std.proofs.lemmas.Bool.{eq-eqb, ne_eqb}
-use Rattle.std.proofs.lemmas.List.Sums.{prefix_len-le-length, take_while-cons}
+use Rattle.std.proofs.lemmas.List.Sums.{take_while-cons}
 use Rattle.phase_base.specs.Limits.{Limits}
 use Rattle.phase_accum.specs.declared.outcome.Outcome.{Outcome}
 use Rattle.phase_accum.specs.declared.outcome.Outcome.TheVariants.{Value, Empty, TooBig}
@@ -19,11 +17,7 @@ use Rattle.phase_history.specs.Replies.{wait_block_reply, got_block_at, refused_
 use Rattle.phase_history.proofs.BlockAnswers.{block_tells, wait_refusal-fewer}
 use Rattle.phase_core.specs.Blocks.{before_too_big, is_not_too_big}
 use Rattle.phase_core.proofs.WaitCore.{got_block_values}
-
--- the values before the first that is too big are no more than all
-pub good-few : (xs : List Outcome) → length (take_while is_not_too_big xs) ≤ length xs
-good-few xs =
-    omega (arith, length-prefix_len is_not_too_big xs, prefix_len-le-length is_not_too_big xs)
+pub use Rattle.phase_ring.proofs.GoodParts.{good-few}
 
 -- ---- the reply
 
@@ -110,27 +104,3 @@ none_good value limits h task n phase reply =
       ap (λ k. take k (drop phase xs)) (let one : phase + 1 - phase ≡ 1 = omega arith in one)
           ∙ ap (take 1) split ∙ ap (λ y. y ∷ []) first,
     )
-
--- ---- in two lists, one behind the other
-
--- where some of the first is too big, no more count
-pub good_in_first : (xs ys : List Outcome) → length (take_while is_not_too_big xs) < length xs
-    → length (take_while is_not_too_big (xs ++ ys)) ≡ length (take_while is_not_too_big xs)
-good_in_first xs ys less =
-    let n = prefix_len is_not_too_big xs in
-    let is = length-prefix_len is_not_too_big xs in
-    length-prefix_len is_not_too_big (xs ++ ys) ∙ prefix_len-append is_not_too_big xs ys
-    ∙ ap (λ b. cond b (length xs + prefix_len is_not_too_big ys) n)
-    (ne_eqb n (length xs) (λ same. omega arith)) ∙ sym is
-
--- and else those of the second behind them
-pub good_in_second : (xs ys : List Outcome) → length (take_while is_not_too_big xs) ≡ length xs
-    → length (take_while is_not_too_big (xs ++ ys))
-    ≡ length xs + length (take_while is_not_too_big ys)
-good_in_second xs ys all =
-    let n = prefix_len is_not_too_big xs in
-    let is = length-prefix_len is_not_too_big xs in
-    length-prefix_len is_not_too_big (xs ++ ys) ∙ prefix_len-append is_not_too_big xs ys
-    ∙ ap (λ b. cond b (length xs + prefix_len is_not_too_big ys) n)
-    (eq-eqb n (length xs) (sym is ∙ all))
-    ∙ ap (λ k. length xs + k) (sym (length-prefix_len is_not_too_big ys))

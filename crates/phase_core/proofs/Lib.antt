@@ -13,7 +13,7 @@ pub mod Missing
 pub mod NewCore
 pub mod OneSends
 pub mod OnlyMember
-pub mod Parked
+pub mod Phasers
 pub mod PlainPhases
 pub mod PlainSteps
 pub mod PlainWaits
@@ -23,5 +23,6 @@ pub mod SignalCore
 pub mod SignalReply
 pub mod SignalRows
 pub mod SignalSlots
-pub mod TwoSlices
+pub mod Switching
 pub mod WaitCore
+pub mod Waits

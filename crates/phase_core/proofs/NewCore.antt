@@ -14,7 +14,7 @@ use Rattle.phase_ring.specs.Standings.{one_if_same}
 use Rattle.phase_ring.specs.Boards.{IsRingAt}
 use Rattle.phase_core.specs.Cores.{StandsFor, IsBoarded, IsCore, core_of}
 use Rattle.phase_core.proofs.LeastCounts.{one-same}
-use Rattle.phase_core.proofs.Boarded.{done_is}
+use Rattle.phase_core.proofs.Boarded.{IsKept, done_is}
 
 -- ---- a new core
 
@@ -56,6 +56,10 @@ pub done_of_core : {A : Type 0} (op : Operation A) (reg : Roster) (b : Board A) 
 done_of_core op reg b h stands =
     ap (λ ms. unwrap_or (least (signal_phases ms)) b.top) stands.members_are
     ∙ ap (λ t. unwrap_or (least (signal_phases (members_of h))) t) stands.top_is
+
+pub done_of_kept : {A : Type 0} (op : Operation A) (reg : Roster) (b : Board A) (h : History) → StandsFor op (core_of reg b) h
+    → IsKept op reg.members b.ring b.limits.bound b.done b.top → b.done ≡ done_of h
+done_of_kept op reg b h stands kept = sym kept.done_at ∙ done_of_core op reg b h stands
 
 pub done_of_boarded : {A : Type 0} (op : Operation A) (reg : Roster) (b : Board A) (h : History) → StandsFor op (core_of reg b) h
     → IsBoarded op reg.members b.ring b.limits.bound b.done b.top → b.done ≡ done_of h

@@ -1,6 +1,5 @@
 -- A signal and a wait of a phaser that keeps values alone.
 use Rattle.std.proofs.Common.{◌≡◌, ℕ, ◌+◌, ◌<◌, ◌≤◌, ◌||◌, true, false, Bool, not, ℤ, List, [], ◌∷◌, ◌++◌, Some, None, Ok, Err, length, refl, sym, ap, ap₂, subst, ◌∙◌, arith, ⊎_elim}
-use Rattle.std.specs.Prelude.{if◌then◌else◌}
 use Rattle.std.specs.List.{All}
 use Rattle.std.proofs.lemmas.Bool.{cases_eq, cases_lt, le-ltb, ne_eqb}
 use Rattle.std.proofs.lemmas.List.{length-append, length-map}
@@ -23,9 +22,7 @@ use Rattle.phase_base.specs.Members.{changed_at, entry_of, least, signal_phases,
 use Rattle.phase_registry.specs.Rosters.{Roster, roster}
 use Rattle.phase_ring.specs.Standings.{count_of, one_if_same}
 use Rattle.phase_core.specs.Blocks.{one_each}
-use Rattle.phase_core.specs.Cores.{CoreState, StandsFor}
-use Rattle.phase_core.specs.declared.plain.Plain.{Plain}
-use Rattle.phase_core.specs.PlainCores.{core_shown}
+use Rattle.phase_core.specs.Cores.{StandsFor}
 use Rattle.phase_core.specs.Plain.{IsPlain, plain_core}
 use Rattle.phase_core.proofs.LeastCounts.{one-other, one-same, signaller-counted, signallers-signalled}
 use Rattle.phase_core.proofs.PlainPhases.{ahead_row, rows_fit, rows_stop, signals_stand, spent_row, to_plain, to_short}
@@ -170,14 +167,6 @@ module _ {A : Type 0} (op : Operation A) (laws : AccumulateLaws op) (r : Roster)
             let next : one_if_same (e.signal_phase + length values) q
             ≡ one_if_same (base + length (xs ++ values)) q = ap (λ n. one_if_same n q) more in
             omega (arith, moved, old, here, next)
-
--- what is shown while the values are kept alone
-pub shown_on : {A : Type 0} (op : Operation A) (slots : CoreState A) (plain : Plain)
-    → plain.is_on ≡ true → core_shown op slots plain
-    ≡ plain_core op plain.registry slots.limits plain.base plain.values.items
-shown_on op slots plain on =
-    ap (λ b. if b then plain_core op plain.registry slots.limits plain.base plain.values.items
-    else slots) on
 
 -- ---- a signal that is refused
 

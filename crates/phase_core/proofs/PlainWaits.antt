@@ -1,56 +1,38 @@
 -- Waits of a phaser that keeps values alone.
-use Rattle.std.proofs.Common.{◌≡◌, ℕ, zero, suc, ◌+◌, ◌-◌, ◌<◌, ◌≤◌, ◌&&◌, true, ℤ, pos, List, [], ◌∷◌, ◌++◌, Option, Some, None, Ok, length, map, take, drop, get_or, set, min, unwrap_or, refl, sym, ap, subst, ◌∙◌, arith, ⊎_elim}
-use Rattle.std.specs.Prelude.{is_some, slice_range, IsSome, slice_index_or}
-use Rattle.std.specs.List.{All, range_with_len}
-use Rattle.std.proofs.lemmas.Bool.{cases_eq, cases_lt, le-leb, true≢false, not-false}
+use Rattle.std.proofs.Common.{◌≡◌, ℕ, ◌+◌, ◌-◌, ◌<◌, ◌≤◌, true, ℤ, List, [], ◌∷◌, Some, None, length, drop, unwrap_or, refl, sym, ap, subst, ◌∙◌, arith, ⊎_elim}
+use Rattle.std.specs.Prelude.{IsSome}
+use Rattle.std.specs.List.{All}
+use Rattle.std.proofs.lemmas.Bool.{cases_lt}
 use Rattle.std.proofs.lemmas.Option.{same_Some}
-use Rattle.std.proofs.lemmas.List.{append_assoc, drop_more, get_or-drop, length-drop, length-map, length-take, map_more}
-use Rattle.std.proofs.Math.Seq.{set-append_seam}
+use Rattle.std.proofs.lemmas.List.{length-drop}
 use Rattle.circular_buffer.specs.Buffer.{Buffer}
 use Rattle.phase_history.proofs.Each.{Each, least_low, least_or_high}
 use Rattle.phase_history.proofs.MemberLemmas.{entry_of-changed_same, signal_phases-waited}
-use Rattle.phase_history.proofs.Refused.{no_row}
-use Rattle.phase_history.proofs.BlockAnswers.{asked_some}
 use Rattle.phase_accum.proofs.Parts.{AreSends-drop}
-use Rattle.phase_accum.specs.Operations.{AccumulateLaws, Operation}
 use Rattle.phase_accum.specs.Sends.{AreSends}
 use Rattle.phase_history.specs.declared.event.Event.TheVariants.{Waited}
-use Rattle.phase_history.specs.declared.refusal.WaitRefusal.{WaitRefusal}
-use Rattle.phase_history.specs.declared.refusal.WaitRefusal.TheVariants as wait
-use Rattle.phase_history.specs.Histories.{History, done_of, members_of, top_of, wait_phase}
-use Rattle.phase_history.specs.Replies.{got_at, got_block_at, refused_or, wait_block_reply, wait_reply}
-use Rattle.phase_history.specs.declared.got.Got.TheVariants as got
-use Rattle.phase_history.specs.declared.got.GotBlock.TheVariants as block
-use Rattle.phase_history.proofs.Steps.{member_entry_is}
-use Rattle.phase_core.proofs.Replies.{got_value}
-use Rattle.phase_history.specs.Phases.{stream_of, value_of_phase}
-use Rattle.phase_history.specs.Refusals.{refusal_at, wait_refusal, wait_rows_at}
+use Rattle.phase_history.specs.Histories.{History, done_of, top_of}
+use Rattle.phase_history.specs.Refusals.{wait_refusal}
 use Rattle.phase_base.specs.Limits.{Limits}
-use Rattle.phase_base.specs.Lists.{first_row}
 use Rattle.phase_base.specs.Modes.{mode_waits}
 use Rattle.phase_base.specs.declared.entry.Entry.{Entry}
 use Rattle.phase_base.specs.Members.{Members, changed_at, entry_of, least, lesser, signal_phases, wait_phases, waited}
 use Rattle.phase_registry.specs.Rosters.{Roster, roster}
-use Rattle.phase_ring.specs.Standings.{count_of, one_if_same}
+use Rattle.phase_ring.specs.Standings.{count_of}
 use Rattle.phase_core.specs.Cores.{StandsFor}
-use Rattle.phase_core.specs.declared.plain.Plain.{Plain}
-use Rattle.phase_core.specs.PlainCores.{HasGoneOn, KeepsValues, MayPassValues, MayGetValues, values_core}
-use Rattle.phase_core.specs.Plain.{IsPlain, plain_core, plain_value}
 use Rattle.phase_core.proofs.LeastCounts.{least_by_counts, low_by_counts, one-other, waiter-counted, waiters-waited}
-use Rattle.phase_core.proofs.Parked.{All-of_each, Each-of_all, high_by_counts, least_counted}
-use Rattle.phase_core.proofs.PlainPhases.{to_plain, to_short, value_stands, waits_stand}
-use Rattle.phase_core.proofs.WaitCore.{got_block_values, stream_range}
+use Rattle.phase_accum.specs.Operations.{Operation}
+use Rattle.phase_ring.specs.declared.board.Board.{Board}
+use Rattle.phase_ring.specs.declared.store.Store.{Store}
+use Rattle.phase_ring.specs.Stores.{KeepsValues}
+use Rattle.phase_core.specs.Cores.{CoreState}
+use Rattle.phase_core.specs.PlainCores.{HasGoneOn, IsAlone, MayGoOn, core_shown}
+use Rattle.phase_core.specs.Plain.{IsPlain, plain_core}
+use Rattle.phase_core.proofs.Switching.{All-of_each, Each-of_all, high_by_counts, least_counted}
+use Rattle.phase_core.proofs.Phasers.{each_counted, not_below, shown_plain}
+use Rattle.phase_core.proofs.PlainPhases.{to_plain, to_short, waits_stand}
 
 -- ---- the slowest waiter
-
-each_counted : (P : ℕ → Type 0) (xs : List ℕ) (p : ℕ) → Each P xs → 0 < count_of p xs → P p
-each_counted P [] p each some = absurd (omega arith)
-each_counted P (x ∷ xs) p each some =
-    ⊎_elim (λ (same : x ≡ p). subst P same each.0)
-    (λ (apart : x ≡ p → ⊥).
-    let none = one-other x p apart in
-    let here : 0 < one_if_same x p + count_of p xs = some in
-    each_counted P xs p each.1 (omega arith)) (cases_eq x p)
 
 none_where : (P : ℕ → Type 0) (xs : List ℕ) (p : ℕ) → Each P xs → (P p → ⊥) → count_of p xs ≡ 0
 none_where P xs p each never =
@@ -79,9 +61,8 @@ module _ (ms : Members) (base task n : ℕ) (e : Entry) (found : entry_of ms tas
     abbrev after : List ℕ
     after = wait_phases (changed_at task (waited n) ms)
 
-    pub not_lower : base ≤ e.wait_phase
-    not_lower = each_counted (λ x. base ≤ x) (wait_phases ms) e.wait_phase
-        (least_low (wait_phases ms) base slowest) (waiter-counted ms task e found waits)
+    not_lower : base ≤ e.wait_phase
+    not_lower = not_below ms base task e found waits slowest
 
     none_lower : (p : ℕ) → p < base → count_of p after ≡ 0
     none_lower p below =
@@ -130,7 +111,7 @@ module _ (ms : Members) (base task n : ℕ) (e : Entry) (found : entry_of ms tas
         let there = one-other (e.wait_phase + n) p (λ same. omega arith) in
         omega arith))
 
--- ---- the reply
+-- ---- after a wait
 
 pub done_of_plain : {A : Type 0} (op : Operation A) (r : Roster) (limits : Limits) (base : ℕ)
     (xs : List ℤ) (h : History) → IsPlain op r limits base xs
@@ -139,162 +120,130 @@ done_of_plain op r limits base xs h plain stands =
     sym (ap (λ ms. unwrap_or (least (signal_phases ms)) (top_of h)) (sym stands.members_are)
     ∙ ap (λ l. unwrap_or (least l) (top_of h)) plain.alone)
 
-pub refused_as : {A : Type 0} (op : Operation A) (r : Roster) (limits : Limits) (base : ℕ)
-    (xs : List ℤ) (h : History) (task n : ℕ) (e : Entry) (o : Option WaitRefusal)
-    → IsPlain op r limits base xs → StandsFor op (plain_core op r limits base xs) h
-    → entry_of r.members task ≡ Some e
-    → o ≡ first_row (wait_rows_at limits (base + length xs) true n e)
-    → wait_refusal limits h task n ≡ o
-refused_as op r limits base xs h task n e o plain stands found row =
-    let rows = wait_rows_at limits (done_of h) (is_some (least (signal_phases (members_of h)))) n in
-    ap (λ ms. refusal_at (entry_of ms task) wait.NoTask rows) (sym stands.members_are)
-    ∙ ap (λ o. refusal_at o wait.NoTask rows) found
-    ∙ ap (λ ms. first_row (wait_rows_at limits (done_of h) (is_some (least (signal_phases ms))) n e))
-    (sym stands.members_are)
-    ∙ ap (λ l. first_row (wait_rows_at limits (done_of h) (is_some (least l)) n e)) plain.alone
-    ∙ ap (λ d. first_row (wait_rows_at limits d true n e))
-    (sym (done_of_plain op r limits base xs h plain stands))
-    ∙ sym row
-
--- a wait that is not refused
-pub may_take : {A : Type 0} (op : Operation A) (limits : Limits) (plain : Plain) (task n : ℕ)
-    (e : Entry) → KeepsValues op limits plain → entry_of plain.registry.members task ≡ Some e
-    → first_row (wait_rows_at limits (plain.base + length plain.values.items) true n e) ≡ None
-    → MayGetValues op limits plain task n e
-may_take op limits plain task n e keeps found none =
-    let top = plain.base + length plain.values.items in
-    let rows = no_row (wait_rows_at limits top true n e) none in
-    let accepted : (h : History) → StandsFor op (values_core op limits plain) h
-    → wait_refusal limits h task n ≡ None = λ h stands. refused_as op plain.registry limits plain.base plain.values.items h task n e None keeps stands found (sym none) in
-    record {
-      found = found;
-      waits = not-false (mode_waits e.mode) rows.0;
-      asked = asked_some limits keeps.history task n (accepted keeps.history keeps.stands);
-      before = ⊎_elim (λ (below : e.wait_phase < top). below)
-          (λ (past : top ≤ e.wait_phase). absurd (true≢false
-          (sym (ap (λ b. b && true) (le-leb top e.wait_phase past)) ∙ rows.1.1.1.0)))
-          (cases_lt e.wait_phase top);
-      accepted = accepted;
-    }
-
--- ---- the values
-
-map-taken : {Y : Type 0} (f : ℤ → Y) (g : ℕ → Y) (xs : List ℤ) (a n : ℕ) → n ≤ length xs
-    → ((i : ℕ) → i < n → f (get_or xs i (pos 0)) ≡ g (a + i))
-    → map f (take n xs) ≡ map g (range_with_len a n)
-map-taken f g xs a zero few same = refl
-map-taken f g [] a (suc n) few same = absurd (omega arith)
-map-taken f g (x ∷ xs) a (suc n) few same =
-    ap (λ y. y ∷ map f (take n xs)) (same 0 (omega arith) ∙ ap g (let z : a + 0 ≡ a = omega arith in z))
-    ∙ ap (λ l. g a ∷ l) (map-taken f g xs (a + 1) n (omega arith) (λ i below.
-    same (suc i) (omega arith) ∙ ap g (let z : a + suc i ≡ a + 1 + i = omega arith in z)))
-
-pub values_taken : {A : Type 0} (op : Operation A) (laws : AccumulateLaws op) (limits : Limits)
-    (plain : Plain) (h : History) (phase count : ℕ) → KeepsValues op limits plain
-    → StandsFor op (values_core op limits plain) h → plain.base ≤ phase
-    → phase + count ≤ plain.base + length plain.values.items
-    → map (plain_value op) (take count (drop (phase - plain.base) plain.values.items))
-    ≡ slice_range (stream_of op.value h) phase (phase + count)
-values_taken op laws limits plain h phase count keeps stands low complete =
-    let r = plain.registry in
-    let xs = plain.values.items in
-    let s = phase - plain.base in
-    let done = done_of_plain op r limits plain.base xs h keeps stands in
-    let short = to_short op r limits plain.base xs h stands in
-    map-taken (plain_value op) (value_of_phase op.value h) (drop s xs) phase count
-    (omega (arith, length-drop s xs)) (λ i below.
-    let at : phase + i - plain.base ≡ s + i = omega arith in
-    ap (plain_value op) (get_or-drop s xs i (pos 0) ∙ ap (λ k. get_or xs k (pos 0)) (sym at))
-    ∙ sym (value_stands op laws r limits plain.base (phase + i) xs h short keeps.slowest (omega arith) (omega arith)))
-    ∙ stream_range op.value h phase count (omega arith)
-
--- a place more has its value
-pub ones_fill : {Y : Type 0} (f : ℤ → Y) (values : List ℤ) (old out : List Y) (i : ℕ) (y : Y)
-    (d : ℤ) → i < length values → length values ≤ length old
-    → out ≡ map f (take i values) ++ drop i old → y ≡ f (get_or values i d)
-    → set out i y ≡ map f (take (i + 1) values) ++ drop (i + 1) old
-ones_fill f values old out i y d within room is value =
-    let front = map f (take i values) in
-    let long : length front ≡ i = omega (arith, length-map (take i values) f, length-take i values) in
-    let rest = drop (i + 1) old in
-    let x = slice_index_or old i y in
-    ap (λ xs. set xs i y) (is ∙ ap (λ ys. front ++ ys) (drop_more old i y (omega arith)))
-    ∙ ap (λ n. set (front ++ x ∷ rest) n y) (sym long)
-    ∙ set-append_seam front x rest y
-    ∙ sym (append_assoc front (y ∷ []) rest)
-    ∙ ap (λ xs. xs ++ rest) (ap (λ z. front ++ z ∷ []) value ∙ sym (map_more f values i d within))
-
--- ---- after it
-
-module _ {A : Type 0} (op : Operation A) (limits : Limits) (old new : Plain) (task n : ℕ) (e : Entry)
-    (keeps : KeepsValues op limits old) (may : MayPassValues old task n e)
-    (went : HasGoneOn old new task n)
+module _ {A : Type 0} (op : Operation A) (r new_r : Roster) (old new : Store A) (task n : ℕ) (e : Entry)
+    (on : old.is_plain ≡ true) (alone : IsAlone op r old) (may : MayGoOn r old task n e)
+    (went : HasGoneOn r new_r old new task n)
   where
+    abbrev limits : Limits
+    limits = old.board.limits
+
+    abbrev xs : List ℤ
+    xs = old.values.queue.items
+
+    abbrev ys : List ℤ
+    ys = new.values.queue.items
+
     abbrev k : ℕ
-    k = new.base - old.base
+    k = new.values.base - old.values.base
 
-    base_is : old.base + k ≡ new.base
-    base_is = let low = went.low in omega arith
+    base_is : old.values.base + k ≡ new.values.base
+    base_is = omega (arith, went.low)
 
-    items_are : new.values.items ≡ drop k old.values.items
+    high : new.values.base ≤ old.values.base + length xs
+    high = omega (arith, went.high on, alone.keeps.top_is)
+
+    items_are : ys ≡ drop k xs
     items_are = ap (λ (b : Buffer ℤ). b.items) went.values
 
-    top_is : old.base + length old.values.items ≡ new.base + length new.values.items
-    top_is = let low = went.low in let high = went.high in
-        let long = ap length items_are ∙ length-drop k old.values.items in omega arith
+    top_is : old.values.base + length xs ≡ new.values.base + length ys
+    top_is = omega (arith, went.low, high, ap length items_are, length-drop k xs)
 
-    pub stands_gone_on : (h : History) → StandsFor op (values_core op limits old) h
+    complete : e.wait_phase + n ≤ old.values.base + length xs
+    complete = omega (arith, may.complete, alone.keeps.top_is)
+
+    plain_stands : (h : History) → StandsFor op (plain_core op r limits old.values.base xs) h
         → wait_refusal limits h task n ≡ None
-        → StandsFor op (values_core op limits new) (Waited task n ∷ h)
-    stands_gone_on h stands none =
-        let r = old.registry in
-        let xs = old.values.items in
-        let high = went.high in
-        let done = done_of_plain op r limits old.base xs h keeps stands in
-        let there = to_plain op new.registry limits (old.base + k) (drop k xs) (Waited task n ∷ h)
-        (waits_stand op r new.registry limits old.base n k xs h task e
-        (to_short op r limits old.base xs h stands) may.found none (omega (arith, may.complete))
-        went.registry (omega arith) (λ slowest waiter.
-        let same : slowest ≡ new.base = same_Some _ _ (sym waiter ∙ went.slowest) in omega (arith, base_is))) in
-        subst (λ vs. StandsFor op (plain_core op new.registry limits new.base vs) (Waited task n ∷ h))
-        (sym items_are) (subst (λ b. StandsFor op (plain_core op new.registry limits b (drop k xs))
+        → StandsFor op (plain_core op new_r limits new.values.base ys) (Waited task n ∷ h)
+    plain_stands h stands none =
+        let base = old.values.base in
+        let done = done_of_plain op r limits base xs h alone.plain stands in
+        let there = to_plain op new_r limits (base + k) (drop k xs) (Waited task n ∷ h)
+        (waits_stand op r new_r limits base n k xs h task e
+        (to_short op r limits base xs h stands) may.found none (omega (arith, complete))
+        went.registry (omega (arith, high)) (λ slowest waiter.
+        let same : slowest ≡ new.values.base = same_Some _ _ (sym waiter ∙ went.slowest on) in omega (arith, base_is))) in
+        subst (λ vs. StandsFor op (plain_core op new_r limits new.values.base vs) (Waited task n ∷ h))
+        (sym items_are) (subst (λ b. StandsFor op (plain_core op new_r limits b (drop k xs))
         (Waited task n ∷ h)) base_is there)
 
-    pub keeps_gone_on : ((h : History) → StandsFor op (values_core op limits old) h
-        → wait_refusal limits h task n ≡ None) → KeepsValues op limits new
-    keeps_gone_on accepted = record {
-      history = Waited task n ∷ keeps.history;
-      stands = stands_gone_on keeps.history keeps.stands (accepted keeps.history keeps.stands);
-      alone = ap (λ (r : Roster). signal_phases r.members) went.registry
-          ∙ signal_phases-waited old.registry.members task n ∙ keeps.alone ∙ ap (λ t. t ∷ []) top_is;
-      slowest = went.slowest;
-      low = subst (λ t. All (λ w. w ≤ t) (wait_phases new.registry.members)) top_is
-          (subst (λ (r : Roster). All (λ w. w ≤ old.base + length old.values.items) (wait_phases r.members))
-          (sym went.registry) (none_higher old.registry.members old.base task n e may.found may.waits
-          may.slowest (old.base + length old.values.items) keeps.low may.complete));
-      near = omega (arith, keeps.near, ap length items_are ∙ length-drop k old.values.items);
-      far = omega (arith, keeps.far, top_is);
-      sends = subst AreSends (sym items_are) (AreSends-drop k old.values.items keeps.sends);
-      used = subst (λ (r : Roster). IsSome r.greatest) (sym went.registry) keeps.used;
+    plain_after : ((h : History) → StandsFor op (plain_core op r limits old.values.base xs) h
+        → wait_refusal limits h task n ≡ None) → IsPlain op new_r limits new.values.base ys
+    plain_after accepted =
+        let plain = alone.plain in
+        record {
+          history = Waited task n ∷ plain.history;
+          stands = plain_stands plain.history plain.stands (accepted plain.history plain.stands);
+          alone = ap (λ (x : Roster). signal_phases x.members) went.registry
+              ∙ signal_phases-waited r.members task n ∙ plain.alone ∙ ap (λ t. t ∷ []) top_is;
+          slowest = went.slowest on;
+          low = subst (λ t. All (λ w. w ≤ t) (wait_phases new_r.members)) top_is
+              (subst (λ (x : Roster). All (λ w. w ≤ old.values.base + length xs) (wait_phases x.members))
+              (sym went.registry) (none_higher r.members old.values.base task n e may.found may.waits
+              (may.slowest on) (old.values.base + length xs) plain.low complete));
+          near = omega (arith, plain.near, ap length items_are, length-drop k xs);
+          far = omega (arith, plain.far, top_is);
+          sends = subst AreSends (sym items_are) (AreSends-drop k xs plain.sends);
+          used = subst (λ (x : Roster). IsSome x.greatest) (sym went.registry) plain.used;
+        }
+
+    keeps_after : KeepsValues new
+    keeps_after =
+        let top = ap (λ (b : Board A). b.top) went.board in
+        let done = ap (λ (b : Board A). b.done) went.board in
+        let bound = ap (λ (b : Board A). b.limits.bound) went.board in
+        record {
+          sends = subst AreSends (sym items_are) (AreSends-drop k xs alone.keeps.sends);
+          near = omega (arith, alone.keeps.near, bound, ap length items_are, length-drop k xs);
+          far = omega (arith, alone.keeps.far, top);
+          top_is = omega (arith, alone.keeps.top_is, top, top_is);
+          done_is = omega (arith, alone.keeps.done_is, top, done);
+        }
+
+    shows : core_shown op r old ≡ plain_core op r limits old.values.base xs
+    shows = shown_plain op old r on alone.keeps
+
+    shows_after : core_shown op new_r new ≡ plain_core op new_r limits new.values.base ys
+    shows_after =
+        shown_plain op new new_r (went.plain ∙ on) keeps_after
+        ∙ ap (λ (b : Board A). plain_core op new_r b.limits new.values.base ys) went.board
+
+    pub stands_gone_on : (h : History) → StandsFor op (core_shown op r old) h
+        → wait_refusal limits h task n ≡ None
+        → StandsFor op (core_shown op new_r new) (Waited task n ∷ h)
+    stands_gone_on h stands none =
+        subst (λ (x : CoreState A). StandsFor op x (Waited task n ∷ h)) (sym shows_after)
+        (plain_stands h (subst (λ (x : CoreState A). StandsFor op x h) shows stands) none)
+
+    pub alone_gone_on : ((h : History) → StandsFor op (core_shown op r old) h
+        → wait_refusal limits h task n ≡ None) → IsAlone op new_r new
+    alone_gone_on accepted = record {
+      plain = subst (λ (b : Board A). IsPlain op new_r b.limits new.values.base ys) (sym went.board)
+          (plain_after (λ h stands. accepted h (subst (λ (x : CoreState A). StandsFor op x h) (sym shows) stands)));
+      keeps = keeps_after;
+      room = ap (λ (b : Buffer ℤ). b.capacity) went.values ∙ alone.room
+          ∙ ap (λ (b : Board A). b.limits.bound) (sym went.board);
+      long = ap (λ (b : Board A). length b.ring.slots) went.board ∙ alone.long
+          ∙ ap (λ (b : Board A). b.limits.bound + 1) (sym went.board);
     }
 
 -- ---- the slowest waiter of the values
 
 -- where it stands after a wait
-pub record StandsWithin (plain : Plain) (slowest : ℕ) : Type 0 where
-  pub low : plain.base ≤ slowest
-  pub high : slowest ≤ plain.base + length plain.values.items
+pub record StandsWithin {A : Type 0} (store : Store A) (slowest : ℕ) : Type 0 where
+  pub low : store.values.base ≤ slowest
+  pub high : slowest ≤ store.board.top
 
-module _ (old : Plain) (task n : ℕ) (e : Entry) (may : MayPassValues old task n e) (r : Roster)
-    (r_is : r ≡ roster (changed_at task (waited n) old.registry.members) old.registry.greatest)
+module _ {A : Type 0} (old : Store A) (task n : ℕ) (e : Entry) (r new_r : Roster)
+    (may : MayGoOn r old task n e)
+    (r_is : new_r ≡ roster (changed_at task (waited n) r.members) r.greatest) (on : old.is_plain ≡ true)
   where
-    there : SlowestAfter old.registry.members old.base task n e may.found may.waits may.slowest
-    there = slowest_after old.registry.members old.base task n e may.found may.waits may.slowest
+    there : SlowestAfter r.members old.values.base task n e may.found may.waits (may.slowest on)
+    there = slowest_after r.members old.values.base task n e may.found may.waits (may.slowest on)
 
-    waiters_are : least (wait_phases r.members) ≡ Some there.phase
+    waiters_are : least (wait_phases new_r.members) ≡ Some there.phase
     waiters_are = ap (λ (x : Roster). least (wait_phases x.members)) r_is ∙ there.is
 
-    pub stands_within : (slowest : ℕ) → least (wait_phases r.members) ≡ Some slowest
+    pub stands_within : (slowest : ℕ) → least (wait_phases new_r.members) ≡ Some slowest
         → StandsWithin old slowest
     stands_within slowest is =
         let same : slowest ≡ there.phase = same_Some _ _ (sym is ∙ waiters_are) in
@@ -302,67 +251,10 @@ module _ (old : Plain) (task n : ℕ) (e : Entry) (may : MayPassValues old task 
         let high = there.high in
         record { low = omega arith; high = omega (arith, may.complete) }
 
-    pub some_waits : least (wait_phases r.members) ≡ None → ⊥
+    pub some_waits : least (wait_phases new_r.members) ≡ None → ⊥
     some_waits none = absurd (let some : Some there.phase ≡ None = sym waiters_are ∙ none in cc)
 
-    pub stays : (e.wait_phase ≡ old.base → ⊥) → least (wait_phases r.members) ≡ Some old.base
+    pub stays : (e.wait_phase ≡ old.values.base → ⊥) → least (wait_phases new_r.members) ≡ Some old.values.base
     stays apart =
         ap (λ (x : Roster). least (wait_phases x.members)) r_is
-        ∙ slowest_stays old.registry.members old.base task n e may.found may.waits may.slowest apart
-
--- ---- what the waits answer
-
-module _ {A : Type 0} {op : Operation A} {limits : Limits} {plain : Plain} {task n : ℕ} {e : Entry}
-    (keeps : KeepsValues op limits plain) (m : MayGetValues op limits plain task n e)
-  where
-    pub waits_above : plain.base ≤ e.wait_phase
-    waits_above = not_lower plain.registry.members plain.base task n e m.found m.waits keeps.slowest
-
-    pub goes_on : (k : ℕ) → e.wait_phase + k ≤ plain.base + length plain.values.items
-        → MayPassValues plain task k e
-    goes_on k complete = record {
-      found = m.found;
-      waits = m.waits;
-      slowest = keeps.slowest;
-      complete = complete;
-      far = keeps.far;
-    }
-
-    module _ (h : History) (stands : StandsFor op (values_core op limits plain) h) where
-      at_phase : wait_phase h task ≡ e.wait_phase
-      at_phase = ap (λ (x : Entry). x.wait_phase) (member_entry_is (members_of h) task e
-          (ap (λ ms. entry_of ms task) (sym stands.members_are) ∙ m.found))
-
-      done_is : plain.base + length plain.values.items ≡ done_of h
-      done_is = done_of_plain op plain.registry limits plain.base plain.values.items h keeps stands
-
-      pub block_answered : (count : ℕ)
-          → count ≡ min n (plain.base + length plain.values.items - e.wait_phase)
-          → wait_block_reply limits h task n ≡ Ok (block.Values e.wait_phase count)
-      block_answered count count_is =
-          ap (λ o. refused_or o (got_block_at h (wait_phase h task) n)) (m.accepted h stands)
-          ∙ ap (λ w. Ok (got_block_at h w n)) at_phase
-          ∙ ap (λ x. Ok x) (got_block_values h e.wait_phase n
-          (plain.base + length plain.values.items) done_is m.before)
-          ∙ ap (λ k. Ok (block.Values e.wait_phase k)) (sym count_is)
-
-      pub one_answered : (laws : AccumulateLaws op) → n ≡ 1 → wait_reply op.value limits h task
-          ≡ Ok (got.Value e.wait_phase (plain_value op (get_or plain.values.items (e.wait_phase - plain.base) (pos 0))))
-      one_answered laws one =
-          let before = m.before in
-          let done = done_is in
-          ap (λ o. refused_or o (got_at op.value h (wait_phase h task)))
-          (ap (wait_refusal limits h task) (sym one) ∙ m.accepted h stands)
-          ∙ ap (λ w. Ok (got_at op.value h w)) at_phase
-          ∙ ap (λ x. Ok x) (got_value op.value h e.wait_phase (omega arith))
-          ∙ ap (λ x. Ok (got.Value e.wait_phase x)) (value_stands op laws plain.registry limits
-          plain.base e.wait_phase plain.values.items h
-          (to_short op plain.registry limits plain.base plain.values.items h stands) keeps.slowest
-          waits_above m.before)
-
--- the first place has the one value that was written
-pub one_written : {Y : Type 0} (f : ℤ → Y) (xs : List ℤ) (s : ℕ) (d : Y) (out : List Y)
-    → s < length xs → out ≡ map f (take 1 (drop s xs)) ++ []
-    → slice_index_or out 0 d ≡ f (get_or xs s (pos 0))
-one_written f xs s d out within is =
-    ap (λ l. slice_index_or l 0 d) (is ∙ ap (λ l. map f (take 1 l) ++ []) (drop_more xs s (pos 0) within))
+        ∙ slowest_stays r.members old.values.base task n e may.found may.waits (may.slowest on) apart

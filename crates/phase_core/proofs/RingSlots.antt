@@ -16,7 +16,7 @@ use Rattle.phase_ring.proofs.Kept.{option_map-some}
 use Rattle.phase_core.specs.Slots.{KeptSlot}
 use Rattle.phase_core.specs.Cores.{StandsFor, IsSlotOf, KeepsSends, KeepsPhase, IsBoarded, sent_of, core_with}
 use Rattle.phase_core.proofs.CoreSteps.{none_from_top}
-use Rattle.phase_core.proofs.Boarded.{slowest_is}
+use Rattle.phase_core.proofs.Boarded.{IsKept, kept_boarded}
 
 -- ---- between the two
 
@@ -82,13 +82,13 @@ first_same None single = refl
 -- ---- what a slot of the ring says of the history
 
 -- each phase of the ring is kept, those from the top on with no sends
-pub slot_keeps : {A : Type 0} (op : Operation A) (reg : Roster) (limits : Limits) (r : Ring A) (done top p : ℕ) (h : History) (slot : Slot A)
-    → StandsFor op (core_with reg limits r top) h → IsBoarded op reg.members r limits.bound done top
+pub slot_kept : {A : Type 0} (op : Operation A) (reg : Roster) (limits : Limits) (r : Ring A) (done top p : ℕ) (h : History) (slot : Slot A)
+    → StandsFor op (core_with reg limits r top) h → IsKept op reg.members r limits.bound done top
     → r.base ≤ p → slot_at r p ≡ Some slot → KeepsSends op (sent_of slot) h p
-slot_keeps {A} op reg limits r done top p h slot stands b low found =
+slot_kept {A} op reg limits r done top p h slot stands b low found =
     ⊎_elim
     (λ below.
-    let k : KeepsPhase op (core_with reg limits r top) h p = stands.phases_are r.base p (slowest_is op reg.members r limits.bound done top b) low below in
+    let k : KeepsPhase op (core_with reg limits r top) h p = stands.phases_are r.base p b.slowest low below in
     let at = ring_slot_of reg limits r top p k.slot k.is_slot in
     let one : at.at ≡ slot = same_Some _ _ (sym at.found ∙ found) in
     let K : KeptSlot A → Type 0 = λ s. KeepsSends op s h p in
@@ -104,3 +104,10 @@ slot_keeps {A} op reg limits r done top p h slot stands b low found =
       named_is = u.named_is ∙ sym nothing.1;
     })
     (cases_lt p top)
+
+pub slot_keeps : {A : Type 0} (op : Operation A) (reg : Roster) (limits : Limits) (r : Ring A) (done top p : ℕ) (h : History) (slot : Slot A)
+    → StandsFor op (core_with reg limits r top) h → IsBoarded op reg.members r limits.bound done top
+    → r.base ≤ p → slot_at r p ≡ Some slot → KeepsSends op (sent_of slot) h p
+slot_keeps op reg limits r done top p h slot stands b low found =
+    slot_kept op reg limits r done top p h slot stands
+    (kept_boarded op reg.members r limits.bound done top b) low found

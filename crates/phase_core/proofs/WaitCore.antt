@@ -1,5 +1,5 @@
 -- What a wait leaves of a core over a registry and a board.
-use Rattle.std.proofs.Common.{◌≡◌, ℕ, ◌+◌, ◌<◌, ◌≤◌, ◌⊎◌, true, Bool, [], ◌∷◌, Option, Some, None, Ok, length, unwrap_or, refl, sym, ◌∙◌, ap, arith, ⊎_elim, inl, inr, zero, suc, ◌-◌, cond, map, take, drop, min, List, ◌++◌, Result, ℤ}
+use Rattle.std.proofs.Common.{◌≡◌, ℕ, ◌+◌, ◌<◌, ◌≤◌, true, Bool, ◌∷◌, Option, Some, None, Ok, length, unwrap_or, refl, sym, ◌∙◌, ap, arith, ⊎_elim, inl, inr, zero, suc, ◌-◌, cond, map, take, drop, min, List, ◌++◌, Result, ℤ}
 use Rattle.std.specs.Prelude.{is_some, slice_range}
 use Rattle.std.proofs.lemmas.Option.{same_Some}
 use Rattle.phase_base.specs.Modes.{mode_waits}
@@ -20,21 +20,17 @@ use Rattle.phase_history.proofs.MemberLemmas.{signal_phases-waited}
 use Rattle.phase_registry.specs.Rosters.{Roster, roster}
 use Rattle.phase_ring.specs.declared.board.Board.{Board}
 use Rattle.phase_ring.specs.declared.role.Role.TheVariants.{Signaller, Waiter}
-use Rattle.phase_ring.specs.Slots.{Slot, slot_value}
-use Rattle.phase_ring.specs.Rings.{slot_at, standing, sents, KeepsSlots}
+use Rattle.phase_ring.specs.Rings.{standing, sents, KeepsSlots}
 use Rattle.phase_ring.specs.Standings.{one_if_same, count_of}
-use Rattle.phase_ring.specs.Boards.{IsRingAt, IsBoard}
-use Rattle.phase_ring.specs.Calls.{HasWaited}
+use Rattle.phase_ring.specs.Boards.{IsRingAt}
 use Rattle.phase_ring.proofs.Slots.{slot_at-some}
-use Rattle.phase_ring.proofs.Kept.{standing-within}
-use Rattle.phase_core.specs.Cores.{StandsFor, IsBoarded, IsCore, sent_of, core_of, core_with}
+use Rattle.phase_core.specs.Cores.{StandsFor, IsBoarded, sent_of, core_of, core_with}
 use Rattle.phase_core.proofs.CoreSteps.{waits_stands, kept_value}
 use Rattle.phase_core.proofs.LeastCounts.{waiters-waited, two_counts, wait_phases-few, waiter-counted}
-use Rattle.phase_core.proofs.Boarded.{boarded_of, waits-some, slowest_is, ReadyToWait, ready_to_wait}
-use Rattle.phase_core.proofs.NewCore.{done_of_boarded}
+use Rattle.phase_core.proofs.Boarded.{IsKept, slowest_is}
+use Rattle.phase_core.proofs.NewCore.{done_of_boarded, done_of_kept}
 use Rattle.phase_core.proofs.Replies.{wait_reply_is, got_value, got_ended}
-use Rattle.phase_core.proofs.RingSlots.{kept_slots, slot_keeps}
-use Rattle.phase_core.proofs.SignalCore.{used_after}
+use Rattle.phase_core.proofs.RingSlots.{kept_slots, slot_kept}
 use Rattle.std.proofs.lemmas.Bool.{lt-ltb, le-ltb}
 use Rattle.phase_history.proofs.Steps.{member_entry_is}
 use Rattle.phase_ring.specs.Blocks.{value_at, value_in, block_values}
@@ -54,18 +50,8 @@ use Rattle.phase_core.specs.Blocks.{written}
 
 -- what a wait of a waiter knows
 pub record Waiting {A : Type 0} (op : Operation A) (reg : Roster) (b : Board A) (e : Entry) : Type 0 where
-  pub boarded : IsBoarded op reg.members b.ring b.limits.bound b.done b.top
-  pub ready : ReadyToWait b.ring e
-
-pub waiting : {A : Type 0} (op : Operation A) (reg : Roster) (b : Board A) (task : ℕ) (e : Entry)
-    → (wait_phases reg.members ≡ []) ⊎ IsBoarded op reg.members b.ring b.limits.bound b.done b.top
-    → entry_of reg.members task ≡ Some e → length reg.members ≤ MEMBERS_MAX → mode_waits e.mode ≡ true → Waiting op reg b e
-waiting op reg b task e either found few waits =
-    let boarded = boarded_of (wait_phases reg.members) either (waits-some reg.members task e found waits) in
-    record {
-      boarded = boarded;
-      ready = ready_to_wait op reg.members b.ring b.limits.bound b.done b.top task e boarded found few waits;
-    }
+  pub kept : IsKept op reg.members b.ring b.limits.bound b.done b.top
+  pub low : b.ring.base ≤ e.wait_phase
 
 -- ---- the reply
 
@@ -77,7 +63,7 @@ pub waits_reply : {A : Type 0} (op : Operation A) (reg : Roster) (b : Board A) (
     → (wait_refusal b.limits h task 1 ≡ r) × (wait_reply op.value b.limits h task ≡ refused_or r (got_at op.value h e.wait_phase))
 waits_reply op reg b h task e has_signaller r w stands found has row =
     wait_reply_is op op.value (core_of reg b) h task e r stands found
-    (row ∙ ap (λ d. first_row (plain_wait_rows b.limits d has_signaller e)) (done_of_boarded op reg b h stands w.boarded)
+    (row ∙ ap (λ d. first_row (plain_wait_rows b.limits d has_signaller e)) (done_of_kept op reg b h stands w.kept)
     ∙ ap (λ s. first_row (plain_wait_rows b.limits (done_of h) s e)) has)
 
 pub waits_ended : {A : Type 0} (op : Operation A) (reg : Roster) (b : Board A) (h : History) (task : ℕ) (e : Entry)
@@ -85,20 +71,23 @@ pub waits_ended : {A : Type 0} (op : Operation A) (reg : Roster) (b : Board A) (
     → wait_reply op.value b.limits h task ≡ refused_or None (got_at op.value h e.wait_phase)
     → wait_reply op.value b.limits h task ≡ Ok got.Ended
 waits_ended op reg b h task e w stands past reply =
-    let d = done_of_boarded op reg b h stands w.boarded in
+    let d = done_of_kept op reg b h stands w.kept in
     reply ∙ ap (λ g. Ok g) (got_ended op.value h e.wait_phase (omega arith))
 
 pub waits_value : {A : Type 0} (op : Operation A) (laws : AccumulateLaws op) (reg : Roster) (b : Board A) (h : History) (task : ℕ) (e : Entry) (outcome : Outcome)
     → Waiting op reg b e → StandsFor op (core_of reg b) h → e.wait_phase < b.done
-    → ((slot : Slot A) → slot_at b.ring e.wait_phase ≡ Some slot → outcome ≡ slot_value op slot)
+    → outcome ≡ value_at op b.ring e.wait_phase
     → wait_reply op.value b.limits h task ≡ refused_or None (got_at op.value h e.wait_phase)
     → wait_reply op.value b.limits h task ≡ Ok (got.Value e.wait_phase outcome)
 waits_value op laws reg b h task e outcome w stands complete value reply =
-    let d = done_of_boarded op reg b h stands w.boarded in
-    let within = standing-within b.ring Waiter e.wait_phase w.ready.stands in
-    let slot = slot_at-some b.ring e.wait_phase within in
-    let keeps = slot_keeps op reg b.limits b.ring b.done b.top e.wait_phase h slot.0 stands w.boarded within.low slot.1 in
-    let is : outcome ≡ value_of_phase op.value h e.wait_phase = value slot.0 slot.1 ∙ kept_value op laws (sent_of slot.0) h e.wait_phase keeps in
+    let d = done_of_kept op reg b h stands w.kept in
+    let slot = slot_at-some b.ring e.wait_phase (record {
+      low = w.low;
+      high = omega (arith, w.kept.kept.long, w.kept.kept.top_bound, w.kept.kept.done_top);
+    }) in
+    let keeps = slot_kept op reg b.limits b.ring b.done b.top e.wait_phase h slot.0 stands w.kept w.low slot.1 in
+    let is : outcome ≡ value_of_phase op.value h e.wait_phase =
+    value ∙ ap (value_in op) slot.1 ∙ kept_value op laws (sent_of slot.0) h e.wait_phase keeps in
     reply ∙ ap (λ g. Ok g) (got_value op.value h e.wait_phase (omega arith) ∙ ap (λ o. got.Value e.wait_phase o) (sym is))
 
 -- ---- after it
@@ -132,14 +121,14 @@ boarded_waited op reg new_reg b new task n e boarded found waits reg_is done_is 
 
 -- and the core stands for the history with the wait
 pub stands_waited : {A : Type 0} (op : Operation A) (reg new_reg : Roster) (b new : Board A) (h : History) (task n : ℕ) (e : Entry)
-    → Waiting op reg b e → StandsFor op (core_of reg b) h → entry_of reg.members task ≡ Some e
+    → IsBoarded op reg.members b.ring b.limits.bound b.done b.top → StandsFor op (core_of reg b) h → entry_of reg.members task ≡ Some e
     → IsBoarded op new_reg.members new.ring new.limits.bound new.done new.top
     → wait_refusal b.limits h task n ≡ None → e.wait_phase + n ≤ b.done
     → new_reg ≡ roster (changed_at task (waited n) reg.members) reg.greatest
     → new.limits ≡ b.limits → new.top ≡ b.top → KeepsSlots (sents b.ring) (sents new.ring)
     → StandsFor op (core_of new_reg new) (Waited task n ∷ h)
-stands_waited {A} op reg new_reg b new h task n e w stands found boarded none complete reg_is limits_is top_is keeps =
-    let d = done_of_boarded op reg b h stands w.boarded in
+stands_waited {A} op reg new_reg b new h task n e before stands found boarded none complete reg_is limits_is top_is keeps =
+    let d = done_of_boarded op reg b h stands before in
     let there : StandsFor op (core_with new_reg b.limits new.ring new.top) (Waited task n ∷ h) =
     waits_stands op (core_of reg b) (core_with new_reg b.limits new.ring new.top) h task n e stands found none (omega arith)
     (record {
@@ -164,7 +153,7 @@ pub wait_block_is : {A : Type 0} (op : Operation A) (reg : Roster) (b : Board A)
 wait_block_is op reg b h task n e has_signaller r w stands found has row =
     let found_h : entry_of (members_of h) task ≡ Some e = (rw (← stands.members_are) found) in
     let phase : wait_phase h task ≡ e.wait_phase = ap (λ (x : Entry). x.wait_phase) (member_entry_is (members_of h) task e found_h) in
-    let done = done_of_boarded op reg b h stands w.boarded in
+    let done = done_of_kept op reg b h stands w.kept in
     let is : wait_refusal b.limits h task n ≡ r =
     ap (λ ms. refusal_at (entry_of ms task) wait.NoTask (wait_rows_at b.limits (done_of h) (is_some (least (signal_phases ms))) n)) (sym stands.members_are)
     ∙ ap (λ o. refusal_at o wait.NoTask (wait_rows_at b.limits (done_of h) (is_some (least (signal_phases reg.members))) n)) found
@@ -205,16 +194,16 @@ stream_range value h phase count complete =
     ∙ ap (λ k. take k (drop phase (stream_of value h))) (let e : count ≡ phase + count - phase = omega arith in e)
 
 pub values_are : {A : Type 0} (op : Operation A) (laws : AccumulateLaws op) (reg : Roster) (b : Board A) (h : History) (phase count : ℕ)
-    → IsBoarded op reg.members b.ring b.limits.bound b.done b.top → StandsFor op (core_of reg b) h → b.ring.base ≤ phase → phase + count ≤ b.done
+    → IsKept op reg.members b.ring b.limits.bound b.done b.top → StandsFor op (core_of reg b) h → b.ring.base ≤ phase → phase + count ≤ b.done
     → block_values op b.ring phase count ≡ slice_range (stream_of op.value h) phase (phase + count)
-values_are op laws reg b h phase count boarded stands low complete =
-    let d = done_of_boarded op reg b h stands boarded in
-    let long = boarded.kept.long in
-    let up = boarded.kept.top_bound in
-    let below = boarded.kept.done_top in
+values_are op laws reg b h phase count kept stands low complete =
+    let d = done_of_kept op reg b h stands kept in
+    let long = kept.kept.long in
+    let up = kept.kept.top_bound in
+    let below = kept.kept.done_top in
     let each : (p : ℕ) → phase ≤ p → p < phase + count → value_at op b.ring p ≡ value_of_phase op.value h p = λ p from to.
     (let slot = slot_at-some b.ring p (record { low = omega arith; high = omega arith }) in
-    let keeps = slot_keeps op reg b.limits b.ring b.done b.top p h slot.0 stands boarded (omega arith) slot.1 in
+    let keeps = slot_kept op reg b.limits b.ring b.done b.top p h slot.0 stands kept (omega arith) slot.1 in
     ap (value_in op) slot.1 ∙ kept_value op laws (sent_of slot.0) h p keeps) in
     map-same (value_at op b.ring) (value_of_phase op.value h) phase count each
     ∙ stream_range op.value h phase count (omega arith)
@@ -245,65 +234,3 @@ block_in_range op laws limits h task phase count result old new legal reply out 
     let got_long : count ≤ length got = omega (arith, length-take (phase + count - phase) (drop phase xs), length-drop phase xs) in
     let front : take count new ≡ take count got = ap (take count) new_is ∙ take-append-le count got (drop count old) got_long in
     (omega arith, rw front (All-take IsInRange count got (All-take IsInRange (phase + count - phase) (drop phase xs) (All-drop IsInRange phase xs (stream_of-in_range op laws limits h legal)))))
-
--- ---- a member that waits
-
--- a core's member that waits, and whether a signaller is alive
-pub record Awaits {A : Type 0} (op : Operation A) (reg : Roster) (b : Board A) (task : ℕ) (e : Entry)
-    (has_signaller : Bool) : Type 0 where
-  pub core : IsCore op reg b
-  pub found : entry_of reg.members task ≡ Some e
-  pub few : length reg.members ≤ MEMBERS_MAX
-  pub waits : mode_waits e.mode ≡ true
-  pub has : has_signaller ≡ is_some (least (signal_phases reg.members))
-
-module _ {A : Type 0} {op : Operation A} {reg : Roster} {b : Board A} {task : ℕ} {e : Entry}
-    {has_signaller : Bool} (m : Awaits op reg b task e has_signaller)
-  where
-    pub here : Waiting op reg b e
-    here = waiting op reg b task e m.core.boarded m.found m.few m.waits
-
-    pub room_behind : (n : ℕ) → 0 < n → standing b.ring Waiter (e.wait_phase + n) < MEMBERS_MAX
-    room_behind n some = few_by op reg b task n e here.boarded m.found m.few m.waits some
-
-    pub one_replied : (h : History) (r : Option WaitRefusal) → StandsFor op (core_of reg b) h
-        → r ≡ first_row (plain_wait_rows b.limits b.done has_signaller e)
-        → (wait_refusal b.limits h task 1 ≡ r)
-        × (wait_reply op.value b.limits h task ≡ refused_or r (got_at op.value h e.wait_phase))
-    one_replied h r stands row =
-        waits_reply op reg b h task e has_signaller r here stands m.found m.has row
-
-    pub block_replied : (h : History) (n : ℕ) (r : Option WaitRefusal) → StandsFor op (core_of reg b) h
-        → r ≡ first_row (wait_rows_at b.limits b.done has_signaller n e)
-        → (wait_refusal b.limits h task n ≡ r)
-        × (wait_block_reply b.limits h task n ≡ refused_or r (got_block_at h e.wait_phase n))
-    block_replied h n r stands row =
-        wait_block_is op reg b h task n e has_signaller r here stands m.found m.has row
-
-    -- what a wait over so many complete phases leaves
-    module _ (new_reg : Roster) (new : Board A) (n : ℕ) (complete : e.wait_phase + n ≤ b.done)
-        (reg_is : new_reg ≡ roster (changed_at task (waited n) reg.members) reg.greatest)
-        (left : HasWaited e.wait_phase (e.wait_phase + n) b new)
-        (slots : KeepsSlots (sents b.ring) (sents new.ring)) (kept : IsBoard op new)
-        (stops : 0 < standing new.ring Waiter new.ring.base)
-      where
-        boarded_after : IsBoarded op new_reg.members new.ring new.limits.bound new.done new.top
-        boarded_after =
-            boarded_waited op reg new_reg b new task n e here.boarded m.found m.waits reg_is
-            left.keeps.done left.keeps.top left.moves.moved left.moves.others kept stops
-
-        pub stands_after_wait : (h : History) → StandsFor op (core_of reg b) h
-            → wait_refusal b.limits h task n ≡ None
-            → StandsFor op (core_of new_reg new) (Waited task n ∷ h)
-        stands_after_wait h stands none =
-            stands_waited op reg new_reg b new h task n e here stands m.found boarded_after none complete
-            reg_is left.keeps.limits left.keeps.top slots
-
-        pub core_after_wait : wait_refusal b.limits m.core.history task n ≡ None
-            → IsCore op new_reg new
-        core_after_wait none = record {
-          history = Waited task n ∷ m.core.history;
-          stands = stands_after_wait m.core.history m.core.stands none;
-          boarded = inr boarded_after;
-          used = used_after reg new_reg (changed_at task (waited n) reg.members) m.core.used reg_is;
-        }

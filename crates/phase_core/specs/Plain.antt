@@ -2,13 +2,12 @@
 use Rattle.std.specs.Prelude.{◌≡◌, ℕ, ℤ, ◌+◌, ◌-◌, ◌≤◌, List, [], ◌∷◌, ◌++◌, Some, None, IsSome, length, map, replicate, unwrap_or}
 use Rattle.std.specs.List.{All}
 use Rattle.phase_accum.specs.Operations.{Operation}
-use Rattle.phase_accum.specs.declared.outcome.Outcome.{Outcome}
 use Rattle.phase_accum.specs.Sends.{AreSends}
 use Rattle.phase_history.specs.Histories.{History}
 use Rattle.phase_base.specs.Limits.{Limits}
 use Rattle.phase_base.specs.declared.limits.TheConstants.{PHASES_MAX}
 use Rattle.phase_base.specs.Members.{least, signal_phases, wait_phases}
-use Rattle.phase_registry.specs.Rosters.{Roster, roster}
+use Rattle.phase_registry.specs.Rosters.{Roster}
 use Rattle.phase_core.specs.Slots.{KeptSlot}
 use Rattle.phase_core.specs.Cores.{CoreState, StandsFor}
 
@@ -19,10 +18,6 @@ plain_slot op v = record { part = op.of v; count = 1; named = Some None }
 -- what is kept of a phase that no signal has joined
 abbrev pub unused_slot : {A : Type 0} → Operation A → KeptSlot A
 unused_slot op = record { part = op.unit; count = 0; named = None }
-
--- the value of a phase of this one send
-abbrev pub plain_value : {A : Type 0} → Operation A → ℤ → Outcome
-plain_value op v = op.finish (op.of v)
 
 -- a registry, limits, and the values of the phases from the base to the top, as a core
 abbrev pub plain_core : {A : Type 0} → Operation A → Roster → Limits → ℕ → List ℤ → CoreState A
@@ -49,7 +44,3 @@ pub record IsPlain {A : Type 0} (op : Operation A) (r : Roster) (limits : Limits
   pub far : base + length values ≤ PHASES_MAX
   pub sends : AreSends values
   pub used : IsSome r.greatest
-
--- the registry whose one task, number 0, has left
-abbrev pub left_roster : Roster
-left_roster = roster [] (Some 0)

@@ -3,18 +3,16 @@
 //! The first calls are `PhaserCore::new`, `PhaserCore::signal` and `PhaserCore::wait`.
 #![tactic(auto)]
 
+mod going_on;
 mod late_tasks;
-mod lent_slots;
 mod list_refusals;
 mod members;
 mod one_sends;
 mod passing;
 mod phaser_core;
-mod plain;
 mod refusal_rows;
 mod signalling;
 mod signalling_plain;
-mod slot_core;
 mod slots;
 mod standing;
 pub mod standing_laws;

@@ -5,11 +5,25 @@ ghost use Rattle.phase_history.specs.declared.event.Event.TheVariants.{Registere
 ghost use Rattle.phase_history.specs.Histories.{History, done_of};
 ghost use Rattle.phase_history.specs.Refusals.{register_refusal, register_now_refusal};
 ghost use Rattle.phase_core.specs.Cores.{StandsFor};
+ghost use Rattle.phase_core.specs.Admission.{refusal_of_add};
 
 use crate::phaser_core::PhaserCore;
+use crate::slots::use_slots;
 use phase_accum::Accumulate;
-use phase_base::Mode;
+use phase_base::{Entry, Mode};
 use phase_history::{NoTask, RegisterRefusal};
+use phase_registry::AddRefusal;
+
+/// The refusal of a registration whose child was not added.
+fn register_refusal_of(refusal: AddRefusal) -> RegisterRefusal
+    ensures { result ≡ refusal_of_add refusal }
+{
+    match refusal {
+        AddRefusal::NotNew => RegisterRefusal::NotNew,
+        AddRefusal::TooManyTasks => RegisterRefusal::TooManyTasks,
+        AddRefusal::OutOfMemory => RegisterRefusal::OutOfMemory,
+    }
+}
 
 impl<A: Accumulate> PhaserCore<A> {
     /// Registers the task `child`, in a mode that the mode of `parent` holds and at both phases of
@@ -33,7 +47,25 @@ impl<A: Accumulate> PhaserCore<A> {
         ensures limits { self.new.limits ≡ self.old.limits }
         ensures err { OnErr result (self.new ≡ self.old) }
     {
-        self.slots().register(parent, child, mode)
+        use_slots(&mut self.store, &self.registry);
+        let Some(entry) = self.registry.get(parent) else {
+            return Err(RegisterRefusal::NoTask);
+        };
+        if !entry.mode.holds(mode) {
+            return Err(RegisterRefusal::NotAllowed);
+        }
+        let waiters = self.registry.waiters();
+        let added = self
+            .registry
+            .add(child, mode, entry.signal_phase, entry.wait_phase);
+        if let Err(refusal) = added {
+            return Err(register_refusal_of(refusal));
+        }
+        if waiters == 0 {
+            return Ok(());
+        }
+        self.store.board.register(Entry { mode, ..entry });
+        Ok(())
     }
 
     /// Registers the task `child` as a waiter at the first phase that is not complete, and answers
@@ -56,7 +88,22 @@ impl<A: Accumulate> PhaserCore<A> {
         ensures limits { self.new.limits ≡ self.old.limits }
         ensures err { OnErr result (self.new ≡ self.old) }
     {
-        self.slots().register_now(parent, child)
+        use_slots(&mut self.store, &self.registry);
+        let Some(entry) = self.registry.get(parent) else {
+            return Err(RegisterRefusal::NoTask);
+        };
+        if !entry.mode.waits() {
+            return Err(RegisterRefusal::NotAllowed);
+        }
+        let done = self.store.board.done;
+        let added = self
+            .registry
+            .add(child, Mode::Wait, entry.signal_phase, done);
+        if let Err(refusal) = added {
+            return Err(register_refusal_of(refusal));
+        }
+        self.store.board.join_now();
+        Ok(done)
     }
 
     /// Ends a task's registration. What it held and never signalled is in no phase.
@@ -71,6 +118,20 @@ impl<A: Accumulate> PhaserCore<A> {
         ensures limits { self.new.limits ≡ self.old.limits }
         ensures err { OnErr result (self.new ≡ self.old) }
     {
-        self.slots().drop_task(task)
+        use_slots(&mut self.store, &self.registry);
+        let Some(entry) = self.registry.get(task) else {
+            return Err(NoTask);
+        };
+        let waiters = self.registry.waiters();
+        let _ = self.registry.remove(task);
+        if waiters == 0 {
+            return Ok(());
+        }
+        if self.registry.waiters() == 0 {
+            self.store.board.clear();
+            return Ok(());
+        }
+        self.store.board.leave(entry);
+        Ok(())
     }
 }

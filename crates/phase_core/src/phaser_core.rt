@@ -6,10 +6,10 @@ ghost use Rattle.phase_history.specs.Histories.{History, done_of, top_of};
 ghost use Rattle.phase_registry.specs.Rosters.{next_after};
 ghost use Rattle.phase_core.specs.Cores.{StandsFor};
 
-use crate::plain::Plain;
-use crate::slot_core::SlotCore;
 use phase_accum::Accumulate;
-use phase_base::{Entry, Spec};
+use phase_base::{Entry, Mode, Spec};
+use phase_registry::Registry;
+use phase_ring::Store;
 use std::alloc::{AllocError, Global};
 use std::marker::Model;
 
@@ -59,8 +59,10 @@ use std::marker::Model;
 /// **Not promised.** That a phase is ever complete.
 #[derive(Drop)]
 pub struct PhaserCore<A: Accumulate> {
-    pub(crate) slots: SlotCore<A>,
-    pub(crate) plain: Plain,
+    pub(crate) registry: Registry,
+    pub(crate) store: Store<A>,
+    // The first phase from which on the values may be kept alone again.
+    pub(crate) again: u64,
 }
 
 impl<A: Accumulate> Model for PhaserCore<A> {
@@ -69,9 +71,9 @@ impl<A: Accumulate> Model for PhaserCore<A> {
 
     ghost Value = { CoreState A };
 
-    ghost view = { λ c. core_shown A.operation c.slots c.plain };
+    ghost view = { λ c. core_shown A.operation c.registry c.store };
 
-    ghost invariant = { λ c. IsPhaser A.operation c.slots c.plain };
+    ghost invariant = { λ c. IsPhaser A.operation c.registry c.store };
 }
 
 impl<A: Accumulate> PhaserCore<A> {
@@ -81,19 +83,24 @@ impl<A: Accumulate> PhaserCore<A> {
         ensures stands { IfOk result (λ core. StandsFor A.operation core (Made first ∷ [])) }
         ensures limits { IfOk result (λ core. core.limits ≡ spec) }
     {
-        let plain = Plain::new(alloc, spec.bound())?;
-        let slots = SlotCore::<A>::new(alloc, spec, first)?;
-        Ok(PhaserCore { slots, plain })
+        let _bound = spec.bound();
+        let store = Store::<A>::new(alloc, spec)?;
+        let mut registry = Registry::new(alloc);
+        let Ok(()) = registry.add(first, Mode::Single, 0, 0) else {
+            return Err(AllocError);
+        };
+        Ok(PhaserCore {
+            registry,
+            store,
+            again: 0,
+        })
     }
 
     /// Returns a task's mode and phases, where it is registered.
     pub fn view(&self, task: u64) -> Option<Entry>
         ensures { result ≡ entry_of self.now.members task }
     {
-        if self.plain.is_on {
-            return self.plain.registry.get(task);
-        }
-        self.slots.view(task)
+        self.registry.get(task)
     }
 
     /// Returns the first phase that is not complete, counted from 0. The phases below it are.
@@ -102,10 +109,10 @@ impl<A: Accumulate> PhaserCore<A> {
     pub fn done(&self) -> u64
         ensures { (h : History) → StandsFor A.operation self.now h → result ≡ done_of h }
     {
-        if self.plain.is_on {
-            return self.plain.top();
+        if self.registry.waiters() > 0 {
+            return self.store.board.done;
         }
-        self.slots.done()
+        self.registry.least_signal().unwrap_or(self.store.board.top)
     }
 
     /// Returns one more than the greatest phase that was ever signalled, or 0.
@@ -114,39 +121,30 @@ impl<A: Accumulate> PhaserCore<A> {
         // A phaser stands for some history, whatever was done with it before.
         ensures stands { (h : History) × StandsFor A.operation self.now h }
     {
-        if self.plain.is_on {
-            return self.plain.top();
-        }
-        self.slots.top()
+        self.store.board.top
     }
 
     /// Returns the number above every number that a task of the phaser ever had, where one is left.
     pub fn next_number(&self) -> Option<u64>
         ensures { result ≡ next_after (Some self.now.greatest) }
     {
-        if self.plain.is_on {
-            return self.plain.registry.next_number();
-        }
-        self.slots.next_number()
+        self.registry.next_number()
     }
 
     /// Returns the least wait phase of the waiters, where one is registered.
     pub fn least_wait(&self) -> Option<u64>
         ensures { result ≡ least (wait_phases self.now.members) }
     {
-        if self.plain.is_on {
-            return Some(self.plain.base);
+        if self.registry.waiters() == 0 {
+            return None;
         }
-        self.slots.least_wait()
+        Some(self.store.base())
     }
 
     /// Returns whether a signaller is registered.
     pub fn has_signaller(&self) -> bool
         ensures { result ≡ is_some (least (signal_phases self.now.members)) }
     {
-        if self.plain.is_on {
-            return true;
-        }
-        self.slots.has_signaller()
+        self.registry.signallers() > 0
     }
 }

@@ -1,14 +1,27 @@
 //! Signals on a phaser, of one phase and of phases in a row.
 ghost use Rattle.std.specs.Prelude.{◌≡◌, ℕ, ℤ, List, [], ◌∷◌, OnErr, IfOk, IfErr, Ok, Err};
 ghost use Rattle.phase_accum.specs.Parcels.{StandsForSends};
+ghost use Rattle.phase_accum.specs.Singles.{CanBeNamed};
 ghost use Rattle.phase_history.specs.Histories.{History};
 ghost use Rattle.phase_history.specs.Replies.{signal_reply, after_signal};
 ghost use Rattle.phase_core.specs.Cores.{StandsFor};
 ghost use Rattle.phase_core.specs.Blocks.{StandForLists};
 
+use crate::list_refusals::{list_refusal, lists_refusal};
 use crate::phaser_core::PhaserCore;
+use crate::refusal_rows;
+use crate::slots::use_slots;
 use phase_accum::{Accumulate, Pending, Single};
 use phase_history::SignalRefusal;
+
+/// Reads a clamp's range, which says that its ends are one. It does nothing.
+pub(crate) fn check_single(single: &Option<Single>)
+    ensures { CanBeNamed single.now }
+{
+    if let Some(Single::Clamp(range)) = single {
+        let _low = range.low();
+    }
+}
 
 impl<A: Accumulate> PhaserCore<A> {
     /// Signals the task's phase, with the sends that it held and a single or none, and answers that
@@ -33,7 +46,29 @@ impl<A: Accumulate> PhaserCore<A> {
         ensures err { OnErr result (self.new ≡ self.old) }
         ensures pending { IfErr result (λ e. e.1 ≡ pending) }
     {
-        self.slots().signal(task, pending, single)
+        use_slots(&mut self.store, &self.registry);
+        let Some(entry) = self.registry.get(task) else {
+            return Err((SignalRefusal::NoTask, pending));
+        };
+        let limits = self.store.board.limits;
+        if let Some(refusal) = refusal_rows::block_refusal(limits, 1, &single, entry) {
+            return Err((refusal, pending));
+        }
+        let slowest = self.least_wait();
+        if let Some(refusal) = list_refusal(&self.store.board, slowest, entry, &pending, &single) {
+            return Err((refusal, pending));
+        }
+        check_single(&single);
+        let _part = pending.part();
+        let phase = entry.signal_phase;
+        if self.registry.waiters() == 0 {
+            self.store.board.raise_top(phase + 1);
+            self.registry.signalled(task, 1);
+            return Ok(phase);
+        }
+        self.store.board.signal(phase, &pending, &single);
+        self.registry.signalled(task, 1);
+        Ok(phase)
     }
 
     /// Signals as many phases in a row as there are lists of sends, the first the task's, a list
@@ -59,7 +94,10 @@ impl<A: Accumulate> PhaserCore<A> {
         ensures err { OnErr result (self.new ≡ self.old) }
         ensures lists { IfErr result (λ e. e.1 ≡ lists) }
     {
-        self.slots().signal_block(task, lists, single)
+        match self.signal_lists(task, &lists, single) {
+            Ok(phase) => Ok(phase),
+            Err(refusal) => Err((refusal, lists)),
+        }
     }
 
     /// The same as `signal_block`, where the sends are lent.
@@ -82,6 +120,29 @@ impl<A: Accumulate> PhaserCore<A> {
         ensures limits { self.new.limits ≡ self.old.limits }
         ensures err { OnErr result (self.new ≡ self.old) }
     {
-        self.slots().signal_lists(task, lists, single)
+        use_slots(&mut self.store, &self.registry);
+        let Some(entry) = self.registry.get(task) else {
+            return Err(SignalRefusal::NoTask);
+        };
+        let phases = lists.len() as u64;
+        let limits = self.store.board.limits;
+        if let Some(refusal) = refusal_rows::block_refusal(limits, phases, &single, entry) {
+            return Err(refusal);
+        }
+        let slowest = self.least_wait();
+        let refusal = lists_refusal(&self.store.board, slowest, entry, lists, &single);
+        if let Some(refusal) = refusal {
+            return Err(refusal);
+        }
+        check_single(&single);
+        let phase = entry.signal_phase;
+        if self.registry.waiters() == 0 {
+            self.store.board.raise_top(phase + phases);
+            self.registry.signalled(task, phases);
+            return Ok(phase);
+        }
+        self.store.board.signal_block(phase, lists, &single);
+        self.registry.signalled(task, phases);
+        Ok(phase)
     }
 }

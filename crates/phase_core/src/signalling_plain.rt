@@ -1,11 +1,11 @@
 //! Signals of a phaser that keeps values alone.
-ghost use Rattle.std.specs.Prelude.{◌≡◌, ℕ, ◌∷◌, None, Some, Ok, Err, true, ◌≤◌, IfSome, OnErr, length};
+ghost use Rattle.std.specs.Prelude.{◌≡◌, ℕ, ◌∷◌, None, Some, Ok, Err, true, ◌<◌, ◌≤◌, IfSome, OnErr, length};
 ghost use Rattle.phase_accum.specs.Sends.{AreSends};
 ghost use Rattle.phase_history.specs.Histories.{History};
 ghost use Rattle.phase_history.specs.Replies.{signal_reply, after_signal};
 ghost use Rattle.phase_history.specs.declared.event.Event.TheVariants.{Signalled};
 ghost use Rattle.phase_accum.specs.declared.single.Single.{Single};
-ghost use Rattle.phase_base.specs.Members.{entry_of};
+ghost use Rattle.phase_base.specs.Members.{entry_of, signal_phases, wait_phases};
 ghost use Rattle.phase_base.specs.Modes.{mode_signals};
 ghost use Rattle.phase_core.specs.Blocks.{one_each};
 ghost use Rattle.phase_core.specs.Cores.{StandsFor};
@@ -15,6 +15,26 @@ use crate::phaser_core::PhaserCore;
 use phase_accum::{Accumulate, Pending, Single};
 use phase_base::Entry;
 use phase_history::SignalRefusal;
+use phase_registry::Registry;
+use phase_ring::Board;
+
+/// So many waiters at most: a wait for values looks at each of them.
+const WAITERS_MAX: u64 = 16;
+
+/// Whether one task alone signals, its next signal joins this phase, and it is the first phase that
+/// is kept. Then no signal has joined any phase that is kept.
+fn is_bare<A: Accumulate>(registry: &Registry, board: &Board<A>, phase: u64) -> bool
+    ensures signaller { result ≡ true → length (signal_phases registry.now.members) ≡ 1 }
+    ensures waiter { result ≡ true → 0 < length (wait_phases registry.now.members) }
+    ensures top { result ≡ true → board.now.top ≡ phase }
+    ensures base { result ≡ true → board.now.ring.base ≡ phase }
+{
+    let waiters = registry.waiters();
+    if registry.signallers() != 1 || waiters == 0 || waiters > WAITERS_MAX {
+        return false;
+    }
+    board.top == phase && board.ring.base() == phase
+}
 
 impl<A: Accumulate> PhaserCore<A> {
     // Keeps the values alone from now on, where no phase is kept and the task with this entry is
@@ -24,16 +44,21 @@ impl<A: Accumulate> PhaserCore<A> {
         requires signals { mode_signals entry.mode ≡ true }
         ensures { self.new ≡ self.old }
     {
-        if self.plain.is_on || !self.slots.can_park(entry) {
+        if self.store.is_plain {
             return;
         }
-        if self.plain.values.capacity() as u64 != self.slots.limits().bound() {
+        let phase = entry.signal_phase;
+        if !is_bare(&self.registry, &self.store.board, phase) {
             return;
         }
-        self.slots.park(&mut self.plain.registry);
-        self.plain.base = entry.signal_phase;
-        self.plain.values.clear();
-        self.plain.is_on = true;
+        let bound = self.store.board.limits.bound();
+        if self.store.values.queue.capacity() as u64 != bound {
+            return;
+        }
+        self.store.values.base = phase;
+        self.store.values.queue.clear();
+        self.store.is_plain = true;
+        self.again = phase.saturating_add(bound);
     }
 
     // Signals as many phases in a row as there are values, with one send each and no single, where
@@ -47,23 +72,26 @@ impl<A: Accumulate> PhaserCore<A> {
         ensures none { result ≡ None → self.new ≡ self.old }
         ensures limits { self.new.limits ≡ self.old.limits }
     {
-        if !self.plain.is_on || values.is_empty() {
+        if !self.store.is_plain || values.is_empty() {
             return None;
         }
-        let entry = self.plain.registry.get(task)?;
+        let entry = self.registry.get(task)?;
         if !entry.mode.signals() || entry.mode.waits() {
             return None;
         }
-        let room = self.plain.values.capacity() - self.plain.values.len();
+        let room = self.store.values.queue.capacity() - self.store.values.queue.len();
         if values.len() > room {
             return None;
         }
         let phases = values.len() as u64;
-        if entry.signal_phase + phases > self.slots.limits().phases_max() {
+        let end = entry.signal_phase + phases;
+        if end > self.store.board.limits.phases_max() {
             return None;
         }
-        let _ = self.plain.values.fill_from_slice(values);
-        self.plain.registry.signalled(task, phases);
+        let _ = self.store.values.queue.fill_from_slice(values);
+        self.store.board.done = end;
+        self.store.board.top = end;
+        self.registry.signalled(task, phases);
         Some(entry.signal_phase)
     }
 
@@ -73,14 +101,14 @@ impl<A: Accumulate> PhaserCore<A> {
     fn enter_for(&mut self, task: u64)
         ensures { self.new ≡ self.old }
     {
-        if self.plain.is_on {
+        if self.store.is_plain {
             return;
         }
         let Some(entry) = self.view(task) else {
             return;
         };
         let signals_alone = entry.mode.signals() && !entry.mode.waits();
-        if signals_alone && entry.signal_phase >= self.plain.again {
+        if signals_alone && entry.signal_phase >= self.again {
             self.enter_plain(entry);
         }
     }
@@ -105,16 +133,16 @@ impl<A: Accumulate> PhaserCore<A> {
         ensures { IfSome result (λ refusal. (h : History) → StandsFor A.operation self.now h
             → signal_reply self.now.limits h task (one_each values.now) None ≡ Err refusal) }
     {
-        let limits = self.slots.limits();
+        let limits = self.store.board.limits;
         let phases = values.len() as u64;
-        if !self.plain.is_on || phases == 0 || phases > limits.bound() {
+        if !self.store.is_plain || phases == 0 || phases > limits.bound() {
             return None;
         }
-        let entry = self.plain.registry.get(task)?;
+        let entry = self.registry.get(task)?;
         if !entry.mode.signals() || entry.mode.waits() {
             return None;
         }
-        let near = self.plain.base + limits.bound();
+        let near = self.store.values.base + limits.bound();
         let last = limits.phases_max();
         if entry.signal_phase + phases <= near.min(last) {
             return None;

@@ -7,7 +7,6 @@ ghost use Rattle.phase_core.specs.Standings.{missing_of, slowest_of, standing_af
 use crate::late_tasks::LateTasks;
 use crate::phaser_core::PhaserCore;
 use phase_accum::Accumulate;
-use phase_registry::Registry;
 use phase_ring::Role;
 
 /// How many tasks are registered, and how far the first phase that is not complete has come.
@@ -35,23 +34,12 @@ impl Standing {
 }
 
 impl<A: Accumulate> PhaserCore<A> {
-    // The registry in which the tasks stand.
-    fn registry(&self) -> &Registry
-        ensures { result.now.members ≡ self.now.members }
-    {
-        if self.plain.is_on {
-            &self.plain.registry
-        } else {
-            &self.slots.registry
-        }
-    }
-
     /// Returns how many tasks are registered, and how many of the signallers have signalled the
     /// first phase that is not complete. It looks at each task, and takes no memory.
     pub fn standing(&self) -> Standing
         ensures { (h : History) → StandsFor A.operation self.now h → result ≡ standing_after h }
     {
-        let registry = self.registry();
+        let registry = &self.registry;
         let phase = self.done();
         let members = registry.members();
         let signalled = members
@@ -73,7 +61,7 @@ impl<A: Accumulate> PhaserCore<A> {
         ensures { (h : History) → StandsFor A.operation self.now h → result ≡ missing_of h }
     {
         LateTasks {
-            members: self.registry().members(),
+            members: self.registry.members(),
             role: Role::Signaller,
             phase: self.done(),
         }
@@ -85,7 +73,7 @@ impl<A: Accumulate> PhaserCore<A> {
         ensures { (h : History) → StandsFor A.operation self.now h → result ≡ slowest_of h }
     {
         LateTasks {
-            members: self.registry().members(),
+            members: self.registry.members(),
             role: Role::Waiter,
             phase: self.least_wait().unwrap_or(0),
         }

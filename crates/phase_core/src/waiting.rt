@@ -9,7 +9,9 @@ ghost use Rattle.phase_history.specs.Replies.{wait_reply, after_wait, wait_block
 ghost use Rattle.phase_core.specs.Cores.{StandsFor};
 ghost use Rattle.phase_core.specs.Blocks.{written, before_too_big};
 
+use crate::going_on::go_on;
 use crate::phaser_core::PhaserCore;
+use crate::refusal_rows;
 use phase_accum::{Accumulate, Outcome};
 use phase_history::{Got, GotBlock, WaitRefusal};
 
@@ -27,10 +29,25 @@ impl<A: Accumulate> PhaserCore<A> {
         ensures limits { self.new.limits ≡ self.old.limits }
         ensures err { OnErr result (self.new ≡ self.old) }
     {
-        if self.plain.is_on {
-            return self.plain.wait::<A>(self.slots.limits(), task);
+        let Some(entry) = self.registry.get(task) else {
+            return Err(WaitRefusal::NoTask);
+        };
+        if !entry.mode.waits() {
+            return Err(WaitRefusal::NoWait);
         }
-        self.slots().wait(task)
+        let done = self.store.board.done;
+        let has_signaller = self.has_signaller();
+        let limits = self.store.board.limits;
+        if let Some(refusal) = refusal_rows::wait_refusal(limits, done, has_signaller, 1, entry) {
+            return Err(refusal);
+        }
+        let phase = entry.wait_phase;
+        if done <= phase {
+            return Ok(Got::Ended);
+        }
+        let outcome = self.store.wait(phase);
+        go_on(&mut self.registry, &mut self.store, task, entry, 1);
+        Ok(Got::Value { phase, outcome })
     }
 
     /// Waits for the task's phase and those behind it that are complete, as many as there are
@@ -50,10 +67,29 @@ impl<A: Accumulate> PhaserCore<A> {
         ensures limits { self.new.limits ≡ self.old.limits }
         ensures err { OnErr result (self.new ≡ self.old) }
     {
-        if self.plain.is_on {
-            return self.plain.wait_block::<A>(self.slots.limits(), task, out);
+        let Some(entry) = self.registry.get(task) else {
+            return Err(WaitRefusal::NoTask);
+        };
+        if !entry.mode.waits() {
+            return Err(WaitRefusal::NoWait);
         }
-        self.slots().wait_block(task, out)
+        let done = self.store.board.done;
+        let has_signaller = self.has_signaller();
+        let limits = self.store.board.limits;
+        let asked = out.len();
+        let refusal = refusal_rows::wait_refusal(limits, done, has_signaller, asked as u64, entry);
+        if let Some(refusal) = refusal {
+            return Err(refusal);
+        }
+        let phase = entry.wait_phase;
+        if done <= phase {
+            return Ok(GotBlock::Ended);
+        }
+        let count = asked.min((done - phase) as usize);
+        self.store.wait_block(phase, count, out);
+        let count = count as u64;
+        go_on(&mut self.registry, &mut self.store, task, entry, count);
+        Ok(GotBlock::Values { phase, count })
     }
 
     /// Answers how many complete phases in range come next for a task, of at most so many: those
@@ -67,9 +103,25 @@ impl<A: Accumulate> PhaserCore<A> {
             → before_too_big (stream_of A.operation.value h)
             (wait_block_reply self.now.limits h task most) ≡ result }
     {
-        if self.plain.is_on {
-            return self.plain.good_ahead::<A>(self.slots.limits(), task, most);
+        let Some(entry) = self.registry.get(task) else {
+            return Err(WaitRefusal::NoTask);
+        };
+        if !entry.mode.waits() {
+            return Err(WaitRefusal::NoWait);
         }
-        self.slots.good_ahead(task, most)
+        let done = self.store.board.done;
+        let has_signaller = self.has_signaller();
+        let limits = self.store.board.limits;
+        let refusal = refusal_rows::wait_refusal(limits, done, has_signaller, most as u64, entry);
+        if let Some(refusal) = refusal {
+            return Err(refusal);
+        }
+        let phase = entry.wait_phase;
+        if done <= phase {
+            return Ok(GotBlock::Ended);
+        }
+        let complete = most.min((done - phase) as usize);
+        let count = self.store.good_ahead(phase, complete) as u64;
+        Ok(GotBlock::Values { phase, count })
     }
 }

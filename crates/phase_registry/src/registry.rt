@@ -65,18 +65,6 @@ impl Registry {
         }
     }
 
-    /// Makes a registry whose one task, number 0, has left. It takes no memory.
-    pub fn left(alloc: Global) -> Registry
-        ensures { result ≡ roster [] (Some 0) }
-    {
-        Registry {
-            members: Vec::new(alloc),
-            greatest: Some(0),
-            signallers: 0,
-            waiters: 0,
-        }
-    }
-
     /// Returns the registered tasks with their entries, in the order in which they joined.
     pub fn members(&self) -> &[Member]
         ensures members { result.now ≡ self.now.members }

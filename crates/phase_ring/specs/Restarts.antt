@@ -1,6 +1,7 @@
 -- The slots of phases in a row of which each is complete and has one send.
 use Rattle.std.specs.Prelude.{ℕ, ℤ, ◌-◌, ◌≤◌, List, ◌++◌, Some, None, true, length, map, replicate}
 use Rattle.phase_accum.specs.Operations.{Operation}
+use Rattle.phase_accum.specs.declared.outcome.Outcome.{Outcome}
 use Rattle.phase_ring.specs.declared.board.Board.{Board}
 use Rattle.phase_ring.specs.declared.role.Role.{Role}
 use Rattle.phase_ring.specs.declared.role.Role.TheVariants.{Signaller, Waiter}
@@ -18,6 +19,10 @@ one_slot op value = record {
   signallers = 0;
   waiters = 0;
 }
+
+-- the value of such a phase
+abbrev pub plain_value : {A : Type 0} → Operation A → ℤ → Outcome
+plain_value op v = op.finish (op.of v)
 
 -- so many slots, the first of the phase `base`: one for each of these values, and empty ones behind
 abbrev pub ring_of_ones : {A : Type 0} → Operation A → ℕ → ℕ → List ℤ → Ring A

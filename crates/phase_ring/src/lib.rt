@@ -8,8 +8,12 @@ mod choice;
 mod role;
 mod slot;
 mod slot_ring;
+mod store;
+mod values;
 
 pub use board::Board;
 pub use role::Role;
 pub use slot::{MergeRefusal, Slot};
 pub use slot_ring::SlotRing;
+pub use store::Store;
+pub use values::Values;

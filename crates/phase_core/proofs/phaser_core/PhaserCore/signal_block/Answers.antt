@@ -1,6 +1,6 @@
--- The phaser stands for what its slots stand for.
+-- What is lent are the lists.
 use Rattle.phase_core.proofs.phaser_core.PhaserCore.signal_block.Goals as goal
 
-pub returns-clause-after : goal.returns-clause-after
-returns-clause-after g c h sends stands held =
-    c.signal_block.ensures.after h sends (rw c.slots.ensures.value stands) held
+pub returns-in-Ok-clause-after : goal.returns-in-Ok-clause-after
+returns-in-Ok-clause-after g c h sends given holds =
+    c.in-Ok.ensures.after h sends given (rw c.deref.ensures.value holds)
