@@ -151,9 +151,14 @@ def tells_whose():
         wants(not lacking, f"{folder} lacks {', '.join(lacking)}")
 
 
+# What is loaded; the library for newer processors is the last.
+NEWER = "lib/glibc-hwcaps/x86-64-v3/libphase.so.0"
+BUILT = ("bin/phase", "lib/libphase.so.0", NEWER)
+
+
 def links_little():
-    """The program and the library ask for the C library alone."""
-    for name in ("bin/phase", "lib/libphase.so.0"):
+    """The program and the libraries ask for the C library alone."""
+    for name in BUILT:
         asked = re.findall(r"^\s*(\S+)", said(f"ldd {name}", PREFIX), re.M)
         other = [it for it in asked if not re.match(r"linux-vdso|libc\.so|libm\.so|.*ld-linux", it)]
         wants(not other or asked == ["not"], f"{name} asks for {other}")
@@ -171,8 +176,8 @@ def alone():
 
 
 def hardened():
-    """The program and the library are stripped, and bind all names when they are loaded."""
-    for name in ("bin/phase", "lib/libphase.so.0"):
+    """The program and the libraries are stripped, and bind all names when they are loaded."""
+    for name in BUILT:
         wants(".symtab" not in said(f"readelf -SW {name}", PREFIX), f"{name} is not stripped")
         dynamic = said(f"readelf -dW {name}", PREFIX)
         wants("(FLAGS)" not in dynamic or "NOW" in dynamic, f"{name} binds names late")
@@ -337,6 +342,18 @@ def in_c():
         wants(said("./steps", LD_LIBRARY_PATH=library) == wanted.read(), "threads in C")
 
 
+def of_processors():
+    """The loader takes the library for a newer processor on one, and qemu the program on each."""
+    library = os.path.join(PREFIX, "lib")
+    told = said("./shared 2>&1", LD_LIBRARY_PATH=library, LD_DEBUG="libs")
+    is_newer = "x86-64-v3 (supported" in said("/lib64/ld-linux-x86-64.so.2 --help")
+    wants(is_newer == (f"init: {PREFIX}/{NEWER}" in told), "the loader took another library")
+    for name in ("Nehalem", "Haswell") if shutil.which("qemu-x86_64") else ():
+        run = f"qemu-x86_64 -cpu {name} {PREFIX}/bin/phase eval average.graph 2> /dev/null"
+        got = said(run, f"{PAGES}/examples/graphs")
+        wants(got == said("cat average.stdout", f"{PAGES}/examples/graphs"), name)
+
+
 def in_rust():
     """A program over the crates: the library by its own folder, by pkg-config, or by a name."""
     crate = os.path.join(SHARE, "phase/rust/phase")
@@ -403,7 +420,7 @@ def begins_soon():
 
 LOOKS = (
     nothing_else, unpacked, proved_tells, tells_whose, links_lead, links_little, alone, hardened,
-    package, readme, of_library, man, completion, in_c, in_rust, as_crates, in_python, rows,
+    package, readme, of_library, man, completion, in_c, of_processors, in_rust, as_crates, in_python, rows,
     begins_soon,
 )
 
