@@ -3,3 +3,4 @@ pub mod Counting
 pub mod Naming
 pub mod Writing
 pub mod Streams
+pub mod Forms

@@ -29,7 +29,7 @@ one_more before samples i d less =
     ∙ ap (λ xs. before ++ xs) (sym (take_more samples i d less))
 
 -- and one more output
-outputs_more : (taps : List ℤ) (form : Form) (before block : List ℤ) (n : ℕ)
+pub outputs_more : (taps : List ℤ) (form : Form) (before block : List ℤ) (n : ℕ)
     → first_outputs taps form before block (n + 1)
     ≡ first_outputs taps form before block n ++ output_in_block taps form before block n ∷ []
 outputs_more taps form before block n =
@@ -196,7 +196,7 @@ drop_shows samples n j less =
     ∙ sym (get_or-reverse samples j (pos 0) (omega (arith, less)))))
 
 -- a state that keeps the last samples shows those of the block too
-keeps_shows : (state before block new : List ℤ) → ShowsLast state before
+pub keeps_shows : (state before block new : List ℤ) → ShowsLast state before
     → new ≡ drop (length block) (state ++ block) → ShowsLast new (before ++ block)
 keeps_shows state before block new shows is j less =
     let all : length (state ++ block) ≡ length state + length block = length-append state block in

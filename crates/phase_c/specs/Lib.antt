@@ -5,3 +5,4 @@ pub mod Refusals
 pub mod Told
 pub mod SinkValues
 pub mod Filtered
+pub mod Formed

@@ -10,9 +10,9 @@ use stream_filters::{Fir, FirFault};
 /// Why a block was not filtered, or not to its end.
 #[derive(Clone, Copy, Debug, PartialEq, Eq)]
 pub enum FilterRefusal {
-    /// No filter has these taps and this shift.
+    /// No filter has these taps and this form.
     Taps,
-    /// The state has not one sample less than there are taps.
+    /// The state, or what was put, is not as long as the filter looks back.
     Counts,
     /// The values have no room where they were to be written.
     Room,
@@ -49,7 +49,7 @@ fn take_in(fir: &mut Fir, samples: &[i64])
 
 /// Writes what a filter answers at each sample of a block, up to the first value that is out of
 /// range, and returns how many it wrote.
-fn steps(fir: &mut Fir, block: &[i64], out: &mut [i64]) -> usize
+pub(crate) fn steps(fir: &mut Fir, block: &[i64], out: &mut [i64]) -> usize
     requires room { length block.now ≤ length out.old }
     ensures few { result ≤ length block.now }
     ensures written { (before : List ℤ) → StandsFor fir.old before → take result out.new

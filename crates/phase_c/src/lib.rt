@@ -9,6 +9,7 @@ mod counts;
 mod evaluate;
 mod exports;
 mod filter;
+mod formed;
 mod in_place;
 mod names;
 mod refusal;
