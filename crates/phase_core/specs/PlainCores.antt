@@ -18,7 +18,8 @@ core_shown op r store = core_of r (board_shown op store)
 
 -- for the code: values that are kept alone are all that is kept, there is room for as many as the
 -- bound says, and there are slots to take their place
-pub record IsPlainStore {A : Type 0} (op : Operation A) (r : Roster) (store : Store A) : Type 0 where
+pub record IsPlainStore {A : Type 0} (op : Operation A) (r : Roster) (store : Store A)
+    : Type 0 where
   pub plain : IsPlain op r store.board.limits store.values.base store.values.queue.items
   pub keeps : KeepsValues store
   pub room : store.values.queue.capacity ≡ store.board.limits.bound

@@ -51,7 +51,8 @@ pub record MayGet {A : Type 0} (from to : ℕ) (store : Store A) : Type 0 where
 
 -- a waiter has gone on over the phases that it got, and the slots are kept that some waiter has
 -- still to get
-pub record GoesOnSlots {A : Type 0} (op : Operation A) (from to : ℕ) (old new : Board A) : Type 0 where
+pub record GoesOnSlots {A : Type 0} (op : Operation A) (from to : ℕ) (old new : Board A)
+    : Type 0 where
   pub invariant : IsBoard op new
   pub waited : HasWaited from to old new
   pub slots : KeepsSlots (sents old.ring) (sents new.ring)
