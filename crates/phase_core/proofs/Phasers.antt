@@ -21,7 +21,7 @@ use Rattle.phase_ring.proofs.Restarted.{ones_kept}
 use Rattle.phase_core.specs.Slots.{KeptSlot}
 use Rattle.phase_core.specs.Cores.{CoreState, IsCore, StandsFor, core_of, core_with, sent_of}
 use Rattle.phase_core.specs.Plain.{plain_core, plain_slot, unused_slot}
-use Rattle.phase_core.specs.PlainCores.{IsAlone, IsPhaser, core_shown}
+use Rattle.phase_core.specs.PlainCores.{IsPlainStore, IsPhaser, core_shown}
 use Rattle.phase_core.proofs.Boarded.{IsKept, boarded_of, kept_boarded}
 use Rattle.phase_core.proofs.LeastCounts.{one-other, waiter-counted}
 
@@ -94,7 +94,7 @@ slots_phaser off core = record {
 }
 
 pub values_phaser : {A : Type 0} {op : Operation A} {r : Roster} {store : Store A}
-    → store.is_plain ≡ true → IsAlone op r store → IsPhaser op r store
+    → store.is_plain ≡ true → IsPlainStore op r store → IsPhaser op r store
 values_phaser on alone = record {
   slots = λ off. absurd (true≢false (sym on ∙ off));
   values = λ is. alone;

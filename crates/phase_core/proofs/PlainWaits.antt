@@ -26,7 +26,7 @@ use Rattle.phase_ring.specs.declared.board.Board.{Board}
 use Rattle.phase_ring.specs.declared.store.Store.{Store}
 use Rattle.phase_ring.specs.Stores.{KeepsValues}
 use Rattle.phase_core.specs.Cores.{CoreState}
-use Rattle.phase_core.specs.PlainCores.{HasGoneOn, IsAlone, MayGoOn, core_shown}
+use Rattle.phase_core.specs.PlainCores.{HasGoneOn, IsPlainStore, MayPassPhases, core_shown}
 use Rattle.phase_core.specs.Plain.{IsPlain, plain_core}
 use Rattle.phase_core.proofs.Switching.{All-of_each, Each-of_all, high_by_counts, least_counted}
 use Rattle.phase_core.proofs.Phasers.{each_counted, not_below, shown_plain}
@@ -121,7 +121,7 @@ done_of_plain op r limits base xs h plain stands =
     ∙ ap (λ l. unwrap_or (least l) (top_of h)) plain.alone)
 
 module _ {A : Type 0} (op : Operation A) (r new_r : Roster) (old new : Store A) (task n : ℕ) (e : Entry)
-    (on : old.is_plain ≡ true) (alone : IsAlone op r old) (may : MayGoOn r old task n e)
+    (on : old.is_plain ≡ true) (alone : IsPlainStore op r old) (may : MayPassPhases r old task n e)
     (went : HasGoneOn r new_r old new task n)
   where
     abbrev limits : Limits
@@ -215,7 +215,7 @@ module _ {A : Type 0} (op : Operation A) (r new_r : Roster) (old new : Store A) 
         (plain_stands h (subst (λ (x : CoreState A). StandsFor op x h) shows stands) none)
 
     pub alone_gone_on : ((h : History) → StandsFor op (core_shown op r old) h
-        → wait_refusal limits h task n ≡ None) → IsAlone op new_r new
+        → wait_refusal limits h task n ≡ None) → IsPlainStore op new_r new
     alone_gone_on accepted = record {
       plain = subst (λ (b : Board A). IsPlain op new_r b.limits new.values.base ys) (sym went.board)
           (plain_after (λ h stands. accepted h (subst (λ (x : CoreState A). StandsFor op x h) (sym shows) stands)));
@@ -234,7 +234,7 @@ pub record StandsWithin {A : Type 0} (store : Store A) (slowest : ℕ) : Type 0 
   pub high : slowest ≤ store.board.top
 
 module _ {A : Type 0} (old : Store A) (task n : ℕ) (e : Entry) (r new_r : Roster)
-    (may : MayGoOn r old task n e)
+    (may : MayPassPhases r old task n e)
     (r_is : new_r ≡ roster (changed_at task (waited n) r.members) r.greatest) (on : old.is_plain ≡ true)
   where
     there : SlowestAfter r.members old.values.base task n e may.found may.waits (may.slowest on)

@@ -15,9 +15,9 @@ use Rattle.phase_history.specs.Replies.{wait_reply, refused_or, got_at, wait_blo
 use Rattle.phase_registry.specs.Rosters.{Roster}
 use Rattle.phase_ring.specs.declared.board.Board.{Board}
 use Rattle.phase_ring.specs.declared.store.Store.{Store}
-use Rattle.phase_ring.specs.Stores.{HasGot, IsStore, KeepsValues, MayGet, ring_of, shown}
+use Rattle.phase_ring.specs.Stores.{GotFrom, IsStore, KeepsValues, MayGet, ring_of, board_shown}
 use Rattle.phase_core.specs.Cores.{CoreState, StandsFor, IsBoarded, core_of}
-use Rattle.phase_core.specs.PlainCores.{HasGoneOn, IsPhaser, MayGoOn, core_shown}
+use Rattle.phase_core.specs.PlainCores.{HasGoneOn, IsPhaser, MayPassPhases, core_shown}
 use Rattle.phase_core.proofs.Boarded.{boarded_beside, waits-some, ready_to_wait}
 use Rattle.phase_core.proofs.Phasers.{kept_of, not_below, shown_off, slots_phaser, values_phaser}
 use Rattle.phase_core.proofs.PlainWaits.{alone_gone_on, stands_gone_on}
@@ -36,7 +36,7 @@ pub record Awaits {A : Type 0} (op : Operation A) (reg : Roster) (store : Store 
 module _ {A : Type 0} {op : Operation A} {reg : Roster} {store : Store A} {task : ℕ} {e : Entry}
     {has_signaller : Bool} (m : Awaits op reg store task e has_signaller)
   where
-    pub here : Waiting op reg (shown op store) e
+    pub here : Waiting op reg (board_shown op store) e
     here =
         let kept = kept_of op reg store m.phaser (waits-some reg.members task e m.found m.waits) in
         record {
@@ -53,7 +53,7 @@ module _ {A : Type 0} {op : Operation A} {reg : Roster} {store : Store A} {task 
         → (wait_refusal store.board.limits h task 1 ≡ r)
         × (wait_reply op.value store.board.limits h task ≡ refused_or r (got_at op.value h e.wait_phase))
     one_replied h r stands row =
-        waits_reply op reg (shown op store) h task e has_signaller r here stands m.found m.has row
+        waits_reply op reg (board_shown op store) h task e has_signaller r here stands m.found m.has row
 
     pub block_replied : (h : History) (n : ℕ) (r : Option WaitRefusal)
         → StandsFor op (core_shown op reg store) h
@@ -61,7 +61,7 @@ module _ {A : Type 0} {op : Operation A} {reg : Roster} {store : Store A} {task 
         → (wait_refusal store.board.limits h task n ≡ r)
         × (wait_block_reply store.board.limits h task n ≡ refused_or r (got_block_at h e.wait_phase n))
     block_replied h n r stands row =
-        wait_block_is op reg (shown op store) h task n e has_signaller r here stands m.found m.has row
+        wait_block_is op reg (board_shown op store) h task n e has_signaller r here stands m.found m.has row
 
     -- what the store asks of a wait
     pub is_store : IsStore op store
@@ -87,7 +87,7 @@ module _ {A : Type 0} {op : Operation A} {reg : Roster} {store : Store A} {task 
 
     -- what a wait over so many complete phases leaves
     module _ (got : Store A) (n : ℕ) (complete : e.wait_phase + n ≤ store.board.done)
-        (has_got : HasGot op e.wait_phase (e.wait_phase + n) store got)
+        (has_got : GotFrom op e.wait_phase (e.wait_phase + n) store got)
       where
         top_same : got.board.top ≡ store.board.top
         top_same = by store.is_plain refl
@@ -96,7 +96,7 @@ module _ {A : Type 0} {op : Operation A} {reg : Roster} {store : Store A} {task 
             by true on = ap (λ (s : Store A). s.board.top) (has_got.values on)
             by false off = (has_got.slots off).waited.keeps.top
 
-        pub may_go_on : MayGoOn reg got task n e
+        pub may_go_on : MayPassPhases reg got task n e
         may_go_on = record {
           found = m.found;
           waits = m.waits;
@@ -134,8 +134,8 @@ module _ {A : Type 0} {op : Operation A} {reg : Roster} {store : Store A} {task 
             is_plain_after : {b : Bool} → store.is_plain ≡ b → new.is_plain ≡ b
             is_plain_after is = went.plain ∙ has_got.same ∙ is
 
-            may_on : store.is_plain ≡ true → MayGoOn reg store task n e
-            may_on on = subst (λ (s : Store A). MayGoOn reg s task n e) (has_got.values on) may_go_on
+            may_on : store.is_plain ≡ true → MayPassPhases reg store task n e
+            may_on on = subst (λ (s : Store A). MayPassPhases reg s task n e) (has_got.values on) may_go_on
 
             went_on : store.is_plain ≡ true → HasGoneOn reg new_reg store new task n
             went_on on = subst (λ (s : Store A). HasGoneOn reg new_reg s new task n) (has_got.values on) went

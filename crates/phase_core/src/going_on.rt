@@ -1,7 +1,7 @@
 //! A waiter that goes on.
 ghost use Rattle.std.specs.Prelude.{◌≡◌, ◌+◌, ◌<◌, ◌^◌, true, Some};
 ghost use Rattle.phase_base.specs.Members.{entry_of};
-ghost use Rattle.phase_core.specs.PlainCores.{MayGoOn, HasGoneOn};
+ghost use Rattle.phase_core.specs.PlainCores.{MayPassPhases, HasGoneOn};
 
 use phase_accum::Accumulate;
 use phase_base::Entry;
@@ -17,7 +17,7 @@ pub fn go_on<A: Accumulate>(
     entry: Entry,
     phases: u64,
 )
-    requires { MayGoOn registry.old store.old task phases entry }
+    requires { MayPassPhases registry.old store.old task phases entry }
     ensures { HasGoneOn registry.old registry.new store.old store.new task phases }
 {
     registry.waited(task, phases);

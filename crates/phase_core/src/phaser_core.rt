@@ -61,8 +61,6 @@ use std::marker::Model;
 pub struct PhaserCore<A: Accumulate> {
     pub(crate) registry: Registry,
     pub(crate) store: Store<A>,
-    // The first phase from which on the values may be kept alone again.
-    pub(crate) again: u64,
 }
 
 impl<A: Accumulate> Model for PhaserCore<A> {
@@ -89,11 +87,7 @@ impl<A: Accumulate> PhaserCore<A> {
         let Ok(()) = registry.add(first, Mode::Single, 0, 0) else {
             return Err(AllocError);
         };
-        Ok(PhaserCore {
-            registry,
-            store,
-            again: 0,
-        })
+        Ok(PhaserCore { registry, store })
     }
 
     /// Returns a task's mode and phases, where it is registered.

@@ -58,7 +58,6 @@ impl<A: Accumulate> PhaserCore<A> {
         self.store.values.base = phase;
         self.store.values.queue.clear();
         self.store.is_plain = true;
-        self.again = phase.saturating_add(bound);
     }
 
     // Signals as many phases in a row as there are values, with one send each and no single, where
@@ -108,7 +107,7 @@ impl<A: Accumulate> PhaserCore<A> {
             return;
         };
         let signals_alone = entry.mode.signals() && !entry.mode.waits();
-        if signals_alone && entry.signal_phase >= self.again {
+        if signals_alone && entry.signal_phase >= self.store.values.again {
             self.enter_plain(entry);
         }
     }

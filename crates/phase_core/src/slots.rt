@@ -54,4 +54,5 @@ pub fn use_slots<A: Accumulate>(store: &mut Store<A>, registry: &Registry)
     store.board.restart(store.values.base, front, back);
     place_all(&mut store.board, registry.members());
     store.is_plain = false;
+    store.values.again = store.values.base.saturating_add(store.board.limits.bound());
 }

@@ -1,13 +1,12 @@
 -- A ring whose slots go on to the next phase, where one task alone stands at the base and nothing
 -- was signalled.
-use Rattle.std.proofs.Common.{◌≡◌, ℕ, ◌+◌, ◌-◌, ◌<◌, ◌≤◌, Some, sym, ◌∙◌, ap, arith, ⊎_elim}
+use Rattle.std.proofs.Common.{◌≡◌, ℕ, ◌+◌, ◌-◌, ◌<◌, ◌≤◌, sym, ◌∙◌, ap, arith, ⊎_elim}
 use Rattle.std.specs.Prelude.{slice_get}
 use Rattle.std.proofs.lemmas.Bool.{le-ltb, cases_eq, cases_lt}
 use Rattle.phase_accum.specs.Operations.{Operation}
 use Rattle.phase_base.specs.declared.limits.TheConstants.{PHASES_MAX}
 use Rattle.phase_ring.specs.declared.role.Role.{Role}
 use Rattle.phase_ring.specs.declared.role.Role.TheVariants.{Signaller, Waiter}
-use Rattle.phase_ring.specs.Slots.{Slot}
 use Rattle.phase_ring.specs.Rings.{Ring, ring, slot_at, standing, standing_in}
 use Rattle.phase_ring.specs.Standings.{one_if_same}
 use Rattle.phase_ring.specs.Boards.{IsRingAt}

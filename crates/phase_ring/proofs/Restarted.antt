@@ -1,5 +1,5 @@
 -- A ring of phases in a row of which each is complete and has one send.
-use Rattle.std.proofs.Common.{◌≡◌, ℕ, zero, suc, true, false, ltb, ◌+◌, ◌-◌, ◌<◌, ◌≤◌, ℤ, pos, List, [], ◌∷◌, ◌++◌, Option, Some, None, get_or, map, length, replicate, refl, sym, ap, subst, ◌∙◌, arith, ⊎_elim}
+use Rattle.std.proofs.Common.{◌≡◌, ℕ, zero, suc, ◌+◌, ◌-◌, ◌<◌, ◌≤◌, ℤ, pos, List, [], ◌∷◌, ◌++◌, Option, Some, None, get_or, map, length, replicate, refl, sym, ap, ◌∙◌, arith, ⊎_elim}
 use Rattle.std.specs.Prelude.{slice_get}
 use Rattle.std.proofs.lemmas.Bool.{cases_lt, le-ltb, lt-ltb}
 use Rattle.std.proofs.lemmas.List.{length-append, length-map, length-replicate}
@@ -11,7 +11,7 @@ use Rattle.phase_ring.specs.declared.role.Role.{Role}
 use Rattle.phase_ring.specs.declared.role.Role.TheVariants.{Signaller, Waiter}
 use Rattle.phase_ring.specs.Restarts.{MayBePlaced, one_slot, ring_of_ones}
 use Rattle.phase_ring.specs.Rings.{Ring, IsWithin, slot_at, standing, standing_in}
-use Rattle.phase_ring.specs.Slots.{Slot, IsUnused, empty_slot}
+use Rattle.phase_ring.specs.Slots.{Slot, empty_slot}
 use Rattle.phase_ring.specs.Boards.{IsRingAt}
 use Rattle.phase_ring.proofs.Slots.{IsPlace, standing-in, standing-out}
 

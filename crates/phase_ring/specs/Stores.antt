@@ -19,8 +19,8 @@ ring_of op store =
     else store.board.ring
 
 -- the board of these slots
-abbrev pub shown : {A : Type 0} → Operation A → Store A → Board A
-shown op store = record {
+abbrev pub board_shown : {A : Type 0} → Operation A → Store A → Board A
+board_shown op store = record {
   limits = store.board.limits;
   ring = ring_of op store;
   done = store.board.done;
@@ -51,14 +51,15 @@ pub record MayGet {A : Type 0} (from to : ℕ) (store : Store A) : Type 0 where
 
 -- a waiter has gone on over the phases that it got, and the slots are kept that some waiter has
 -- still to get
-pub record GoesOn {A : Type 0} (op : Operation A) (from to : ℕ) (old new : Board A) : Type 0 where
+pub record GoesOnSlots {A : Type 0} (op : Operation A) (from to : ℕ) (old new : Board A)
+    : Type 0 where
   pub invariant : IsBoard op new
   pub waited : HasWaited from to old new
   pub slots : KeepsSlots (sents old.ring) (sents new.ring)
   pub stops : 0 < standing new.ring Waiter new.ring.base
 
 -- on slots a waiter has gone on, and sends that are kept alone stay as they are
-pub record HasGot {A : Type 0} (op : Operation A) (from to : ℕ) (old new : Store A) : Type 0 where
+pub record GotFrom {A : Type 0} (op : Operation A) (from to : ℕ) (old new : Store A) : Type 0 where
   pub same : new.is_plain ≡ old.is_plain
-  pub slots : old.is_plain ≡ false → GoesOn op from to old.board new.board
+  pub slots : old.is_plain ≡ false → GoesOnSlots op from to old.board new.board
   pub values : old.is_plain ≡ true → new ≡ old

@@ -20,7 +20,8 @@ use phase_accum::{Accumulate, Outcome, Pending, Single};
 use phase_base::{Entry, MEMBERS_MAX, PHASES_MAX, Spec};
 use std::alloc::{AllocError, Global};
 
-/// The phases that are kept while a waiter is registered, and which of them are complete.
+/// The slots of the phases that are kept while a waiter is registered, and which of these phases
+/// are complete.
 ///
 /// At the end of each call `done` is the first phase at which a signaller stands, or the top where
 /// none stands anywhere, and a waiter stands at the ring's base. All phases below `done` are

@@ -6,7 +6,7 @@ ghost use Rattle.phase_ring.specs.Blocks.{block_values, is_not_too_big, value_at
 ghost use Rattle.phase_ring.specs.Boards.{IsBoard};
 ghost use Rattle.phase_ring.specs.Rings.{standing};
 ghost use Rattle.phase_ring.specs.Standings.{one_if_same};
-ghost use Rattle.phase_ring.specs.Stores.{IsStore, MayGet, HasGot, ring_of};
+ghost use Rattle.phase_ring.specs.Stores.{IsStore, MayGet, GotFrom, ring_of};
 
 use crate::board::Board;
 use crate::values::Values;
@@ -66,7 +66,7 @@ impl<A: Accumulate> Store<A> {
         requires invariant { IsStore A.operation self.old }
         requires may { MayGet phase (phase + 1) self.old }
         ensures value { result ≡ value_at A.operation (ring_of A.operation self.old) phase }
-        ensures got { HasGot A.operation phase (phase + 1) self.old self.new }
+        ensures got { GotFrom A.operation phase (phase + 1) self.old self.new }
     {
         if self.is_plain {
             return self.values.value::<A>(phase);
@@ -83,7 +83,7 @@ impl<A: Accumulate> Store<A> {
         requires room { count ≤ length out.old }
         ensures out { out.new ≡ block_values A.operation (ring_of A.operation self.old) phase count
             ++ drop count out.old }
-        ensures got { HasGot A.operation phase (phase + count) self.old self.new }
+        ensures got { GotFrom A.operation phase (phase + count) self.old self.new }
     {
         if self.is_plain {
             self.values.write::<A>(phase, count, out);

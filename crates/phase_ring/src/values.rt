@@ -1,6 +1,7 @@
 //! The values of phases of one send each.
 ghost use Rattle.std.specs.Prelude.{◌≡◌, ◌+◌, ◌-◌, ◌<◌, ◌≤◌, ◌++◌, [], drop, length, map, pos, get_or, take, IfOk};
 ghost use Rattle.std.specs.List.{take_while};
+ghost use Rattle.circular_buffer.specs.Buffer.{buffer};
 ghost use Rattle.phase_accum.specs.Sends.{AreSends};
 ghost use Rattle.phase_ring.specs.Blocks.{is_not_too_big};
 ghost use Rattle.phase_ring.specs.Restarts.{plain_value};
@@ -15,6 +16,8 @@ use std::alloc::{AllocError, Global};
 pub struct Values {
     /// The phase of the first send.
     pub base: u64,
+    /// The first phase from which on sends may be kept so again.
+    pub again: u64,
     /// The sends, with room for as many as the bound says.
     pub queue: HeapCircularBuffer<i64>,
 }
@@ -49,10 +52,14 @@ impl Values {
     /// Makes room for so many sends, and keeps none. It takes all the memory that they will need.
     pub fn with_room(alloc: Global, bound: u64) -> Result<Values, AllocError>
         requires { bound ≤ BOUND_MAX }
-        ensures { IfOk result (λ values. values.queue.items ≡ []) }
+        ensures { IfOk result (λ values. values.queue ≡ buffer [] bound) }
     {
         let queue = HeapCircularBuffer::with_capacity(alloc, bound as usize)?;
-        Ok(Values { base: 0, queue })
+        Ok(Values {
+            base: 0,
+            again: 0,
+            queue,
+        })
     }
 
     /// Returns the value of a phase.

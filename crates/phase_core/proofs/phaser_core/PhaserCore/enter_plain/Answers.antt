@@ -38,7 +38,11 @@ bare g c =
 abbrev next : (g : Over) (c : After-clear g) → Store g.row.A.Denot
 next g c = record {
   board = c.self.inside.store.board;
-  values = record { base = c.args.entry.signal_phase; queue = c.clear.new.self };
+  values = record {
+    base = c.args.entry.signal_phase;
+    again = c.self.inside.store.values.again;
+    queue = c.clear.new.self;
+  };
   is_plain = true;
 }
 

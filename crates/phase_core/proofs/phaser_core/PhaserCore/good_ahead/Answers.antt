@@ -10,7 +10,7 @@ use Rattle.phase_history.specs.Phases.{stream_of}
 use Rattle.phase_history.specs.Replies.{wait_block_reply}
 use Rattle.phase_history.proofs.BlockAnswers.{asked_some}
 use Rattle.phase_core.specs.Blocks.{before_too_big, is_not_too_big}
-use Rattle.phase_ring.specs.Stores.{shown}
+use Rattle.phase_ring.specs.Stores.{board_shown}
 use Rattle.phase_core.specs.Cores.{CoreState, StandsFor}
 use Rattle.phase_core.specs.PlainCores.{core_shown}
 use Rattle.phase_core.proofs.Phasers.{phaser_shows}
@@ -79,11 +79,11 @@ replied g c m k h stands =
     let reply : wait_block_reply store.board.limits h c.args.task n ≡ Ok (got.Values phase c.min-complete.result) =
     (block_replied m h n None stands c.in_default-refusal.ensures).1
     ∙ ap (λ x. Ok x) (got_block_values h phase n store.board.done
-    (done_of_kept op reg (shown op store) h stands (here m).kept) k.before)
+    (done_of_kept op reg (board_shown op store) h stands (here m).kept) k.before)
     ∙ ap (λ k. Ok (got.Values phase k)) (sym k.least_of) in
     ap (before_too_big stream) reply
     ∙ ap (λ xs. Ok (got.Values phase (length (take_while is_not_too_big xs))))
-    (sym (values_are op g.met.A.Accumulate.laws reg (shown op store) h phase c.min-complete.result (here m).kept
+    (sym (values_are op g.met.A.Accumulate.laws reg (board_shown op store) h phase c.min-complete.result (here m).kept
     stands low (omega arith)))
     ∙ ap (λ k. Ok (got.Values phase k)) (sym c.good_ahead-count.ensures)
 
@@ -115,7 +115,7 @@ returns-then-done-phase g c h given =
     rw (← c.self.view_is) (ap (before_too_big (stream_of op.value h))
     ((block_replied m h n None stands c.in_default-refusal.ensures).1
     ∙ ap (λ x. Ok x) (got_block_ended h c.in-Some.entry.wait_phase n store.board.done
-    (done_of_kept op c.self.inside.registry (shown op store) h stands (here m).kept) c.if-done-phase.true)))
+    (done_of_kept op c.self.inside.registry (board_shown op store) h stands (here m).kept) c.if-done-phase.true)))
 
 pub returns : goal.returns
 returns g c h given =

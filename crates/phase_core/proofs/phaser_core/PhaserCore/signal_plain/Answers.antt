@@ -111,7 +111,11 @@ next g c =
     let end = c.in_ok-entry.entry.signal_phase + length c.args.values.now in
     record {
       board = record { limits = store.board.limits; ring = store.board.ring; done = end; top = end };
-      values = record { base = store.values.base; queue = c.fill_from_slice.new.self };
+      values = record {
+        base = store.values.base;
+        again = store.values.again;
+        queue = c.fill_from_slice.new.self;
+      };
       is_plain = store.is_plain;
     }
 

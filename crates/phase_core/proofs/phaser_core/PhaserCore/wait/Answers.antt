@@ -4,7 +4,7 @@ use Rattle.std.proofs.Common.{◌≡◌, ◌<◌, Some, None, sym, subst, ◌∙
 use Rattle.std.specs.Prelude.{is_some}
 use Rattle.phase_base.specs.Members.{signal_phases, least}
 use Rattle.phase_history.proofs.InRange.{wait_reply-in_range}
-use Rattle.phase_ring.specs.Stores.{shown}
+use Rattle.phase_ring.specs.Stores.{board_shown}
 use Rattle.phase_core.specs.Cores.{CoreState, StandsFor}
 use Rattle.phase_core.specs.PlainCores.{core_shown}
 use Rattle.phase_core.proofs.Phasers.{phaser_shows}
@@ -41,7 +41,7 @@ returns-then-done-phase-clause-reply g c h given =
     let store = c.self.inside.store in
     let m = awaits g (goal.at.returns-then-done-phase-clause-reply g c).After-wait_refusal in
     let stands : StandsFor op (core_shown op reg store) h = rw c.self.view_is given in
-    rw (← c.self.view_is) (waits_ended op reg (shown op store) h c.args.task c.in-Some.entry (here m)
+    rw (← c.self.view_is) (waits_ended op reg (board_shown op store) h c.args.task c.in-Some.entry (here m)
     stands c.if-done-phase.true (one_replied m h None stands c.in_default-wait_refusal.ensures).1)
 
 pub wait-outcome-requires : goal.wait-outcome-requires
@@ -72,7 +72,7 @@ returns-clause-reply g c h given =
     let store = c.self.inside.store in
     let m = awaits g (goal.at.returns-clause-reply g c).After-wait_refusal in
     let stands : StandsFor op (core_shown op reg store) h = rw c.self.view_is given in
-    rw (← c.self.view_is) (waits_value op g.met.A.Accumulate.laws reg (shown op store) h c.args.task
+    rw (← c.self.view_is) (waits_value op g.met.A.Accumulate.laws reg (board_shown op store) h c.args.task
     c.in-Some.entry c.wait-outcome.result (here m) stands c.if-done-phase.false
     c.wait-outcome.ensures.value (one_replied m h None stands c.in_default-wait_refusal.ensures).1)
 

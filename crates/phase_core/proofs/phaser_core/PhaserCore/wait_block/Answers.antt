@@ -6,7 +6,7 @@ use Rattle.phase_history.specs.declared.got.GotBlock.TheVariants as got
 use Rattle.phase_history.specs.Histories.{History}
 use Rattle.phase_history.specs.Refusals.{wait_refusal}
 use Rattle.phase_history.proofs.BlockAnswers.{wait_refusal-fewer, asked_some}
-use Rattle.phase_ring.specs.Stores.{shown}
+use Rattle.phase_ring.specs.Stores.{board_shown}
 use Rattle.phase_core.specs.Cores.{CoreState, StandsFor}
 use Rattle.phase_core.specs.PlainCores.{core_shown}
 use Rattle.phase_core.proofs.Phasers.{phaser_shows}
@@ -82,7 +82,7 @@ returns-then-done-phase-clause-reply g c h given =
     let n = length c.args.out.now in
     rw (← c.self.view_is) ((block_replied m h n None stands c.in_default-refusal.ensures).1
     ∙ ap (λ x. Ok x) (got_block_ended h c.in-Some.entry.wait_phase n store.board.done
-    (done_of_kept op c.self.inside.registry (shown op store) h stands (here m).kept) c.if-done-phase.true))
+    (done_of_kept op c.self.inside.registry (board_shown op store) h stands (here m).kept) c.if-done-phase.true))
 
 pub wait_block-requires : goal.wait_block-requires
 wait_block-requires g c =
@@ -130,7 +130,7 @@ returns-clause-reply g c h given =
     let stands : StandsFor op (core_shown op c.self.inside.registry store) h = rw c.self.view_is given in
     rw (← c.self.view_is) ((block_replied m h n None stands c.in_default-refusal.ensures).1
     ∙ ap (λ x. Ok x) (got_block_values h phase n store.board.done
-    (done_of_kept op c.self.inside.registry (shown op store) h stands (here m).kept) k.before)
+    (done_of_kept op c.self.inside.registry (board_shown op store) h stands (here m).kept) k.before)
     ∙ ap (λ k. Ok (got.Values phase k)) (sym k.least_of))
 
 pub returns-clause-after : goal.returns-clause-after
@@ -161,7 +161,7 @@ returns-clause-out g c h given =
     let stands : StandsFor op (core_shown op reg store) h = rw c.self.view_is given in
     let low = (here m).low in
     c.wait_block.ensures.out
-    ∙ ap (λ xs. xs ++ drop count c.args.out.now) (values_are op g.met.A.Accumulate.laws reg (shown op store) h phase
+    ∙ ap (λ xs. xs ++ drop count c.args.out.now) (values_are op g.met.A.Accumulate.laws reg (board_shown op store) h phase
     count (here m).kept stands low (omega arith))
 
 -- what it answers are values of some legal history

@@ -1,5 +1,4 @@
 -- The only task goes on, and every slot with it.
-use Rattle.std.proofs.Common.{rules}
 use Rattle.phase_ring.proofs.Passing.{shifted_kept, shifted_alone}
 use Rattle.phase_ring.proofs.board.Board.pass.Goals as goal
 

@@ -1,6 +1,5 @@
 -- It stands for the one send.
 use Rattle.std.proofs.Common.{◌≡◌, [], ◌∷◌, refl, ◌∙◌, ap, to_z-of_z}
-use Rattle.phase_accum.specs.Operations.{IsPartOf}
 use Rattle.phase_accum.proofs.Parts.{IsPartOf-one}
 use Rattle.phase_ring.proofs.slot.Slot.of_one.Goals as goal
 

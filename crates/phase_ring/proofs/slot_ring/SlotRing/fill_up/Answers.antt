@@ -1,5 +1,5 @@
 -- One more empty slot.
-use Rattle.std.proofs.Common.{◌≡◌, ◌-◌, ◌<◌, [], ◌∷◌, ◌++◌, length, replicate, refl, sym, ap, ap₂, subst, ◌∙◌, arith, append-nil}
+use Rattle.std.proofs.Common.{◌≡◌, ◌-◌, ◌<◌, [], ◌∷◌, ◌++◌, length, replicate, refl, sym, ap, ap₂, ◌∙◌, arith, append-nil}
 use Rattle.circular_buffer.specs.Buffer.{buffer, keep_last}
 use Rattle.phase_ring.specs.Slots.{empty_slot}
 use Rattle.phase_ring.proofs.Held.{filled-more}

@@ -1,7 +1,6 @@
 -- One more slot.
-use Rattle.std.proofs.Common.{rules, ◌≡◌, ◌+◌, ◌≤◌, [], ◌∷◌, ◌++◌, length, pos, get_or, refl, sym, ap, subst, ◌∙◌, arith, SFits, w64, to_z, of_z, to_z-of_z}
+use Rattle.std.proofs.Common.{rules, ◌≡◌, ◌+◌, ◌≤◌, [], ◌∷◌, ◌++◌, length, pos, get_or, refl, ap, ◌∙◌, arith, SFits, w64, to_z-of_z}
 use Rattle.circular_buffer.specs.Buffer.{buffer, keep_last}
-use Rattle.phase_accum.specs.Sends.{IsSend}
 use Rattle.phase_ring.specs.Restarts.{one_slot}
 use Rattle.phase_ring.proofs.Held.{AreSends-at, ones-more}
 use Rattle.phase_ring.proofs.slot_ring.SlotRing.put_ones.Goals as goal
