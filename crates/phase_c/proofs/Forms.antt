@@ -57,7 +57,7 @@ puts_all taps form before block outs fits is =
     ∙ ap (λ l. puts_of taps form before ++ l) (sym is))
 
 -- as long as before
-kept_long : (state block new : List ℤ) → new ≡ drop (length block) (state ++ block)
+pub kept_long : (state block new : List ℤ) → new ≡ drop (length block) (state ++ block)
     → length new ≡ length state
 kept_long state block new is = omega (
   arith,

@@ -2,13 +2,15 @@
 ghost use Rattle.std.specs.Prelude.{◌≡◌, ◌≢◌, pos, length, IfOk, IfErr};
 ghost use Rattle.stream_filters.specs.Filter.{by_shift};
 ghost use Rattle.phase_c.specs.Filtered.{FilterStops, FiltersAll};
+ghost use Rattle.phase_c.specs.Formed.{FiltersAllFormed, FormedStops, IsNamed, StateStays};
 ghost use Rattle.phase_c.specs.Names.{WritesNames, all_names_text, names_text};
 ghost use Rattle.phase_c.specs.Refusals.{IsDone, RefusesText};
 ghost use Rattle.phase_c.specs.Told.{CheckIsRefused, Counted, EvalIsRefused, NamesStop, version};
 
 use crate::evaluate::evaluate;
 use crate::filter::{filter_block, filter_status_of};
-use crate::in_place::filter_in_place;
+use crate::formed::{PhaseFirForm, filter_formed};
+use crate::in_place::{filter_in_place, formed_in_place};
 use crate::names::{write_all_names, write_names};
 use crate::refusal::Refusal;
 use crate::sinks::sinks_of;
@@ -211,6 +213,67 @@ pub extern "C" fn phase_fir_in_place(
     ensures same { result ≢ pos 0 → state.new ≡ state.old }
 {
     match filter_in_place(alloc, taps, shift, state, block, done) {
+        Ok(()) => 0,
+        Err(why) => filter_status_of(why),
+    }
+}
+
+/// Answers 0 with what a filter of any form gives at each sample of a block, or a status that tells
+/// why not. The last taps, as many as the form's `again` says, weigh what it put.
+///
+/// The state has the last samples before the block, as many as the filter looks back to, and `puts`
+/// the last values that it put, as many as it weighs: each the oldest first, and zeros where there
+/// were none. At 0 they have those of the block too. What stands behind the values stays. `done` is
+/// how many of them are right.
+///
+/// It takes memory for the filter, and gives it back. What is refused is looked at in this order:
+/// the taps and the form, the lengths of state and puts, room, memory, the range of each value.
+#[unsafe(no_mangle)]
+pub extern "C" fn phase_fir_with(
+    alloc: Global,
+    taps: &[i64],
+    form: &PhaseFirForm,
+    state: &mut [i64],
+    puts: &mut [i64],
+    block: &[i64],
+    out: &mut [i64],
+    done: &mut usize,
+) -> i32
+    ensures all { result ≡ pos 0 → IsNamed form.now (λ named. FiltersAllFormed taps.now named
+        state.old state.new puts.old puts.new block.now out.old out.new done.new) }
+    ensures stops { result ≢ pos 0 → FormedStops taps.now form.now state.old puts.old block.now
+        out.old out.new done.new result }
+    ensures same { result ≢ pos 0 → StateStays state.old state.new puts.old puts.new }
+{
+    match filter_formed(alloc, taps, form, state, puts, block, out, done) {
+        Ok(()) => 0,
+        Err(why) => filter_status_of(why),
+    }
+}
+
+/// Answers 0 with what a filter of any form gives at each sample of a block, written over the
+/// sample, or a status that tells why not.
+///
+/// State and puts are as `phase_fir_with` has them. `done` is how many values are right, in the
+/// first places of the block; behind them it has its samples still. It takes memory for the filter
+/// and for a second state, and refuses as `phase_fir_with`, but wants no room.
+#[unsafe(no_mangle)]
+pub extern "C" fn phase_fir_with_in_place(
+    alloc: Global,
+    taps: &[i64],
+    form: &PhaseFirForm,
+    state: &mut [i64],
+    puts: &mut [i64],
+    block: &mut [i64],
+    done: &mut usize,
+) -> i32
+    ensures all { result ≡ pos 0 → IsNamed form.now (λ named. FiltersAllFormed taps.now named
+        state.old state.new puts.old puts.new block.old block.old block.new done.new) }
+    ensures stops { result ≢ pos 0 → FormedStops taps.now form.now state.old puts.old block.old
+        block.old block.new done.new result }
+    ensures same { result ≢ pos 0 → StateStays state.old state.new puts.old puts.new }
+{
+    match formed_in_place(alloc, taps, form, state, puts, block, done) {
         Ok(()) => 0,
         Err(why) => filter_status_of(why),
     }

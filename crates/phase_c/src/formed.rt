@@ -56,7 +56,7 @@ fn are_reached(taps: &[i64], form: &Form, state: &[i64], puts: &[i64]) -> bool
 
 /// A filter that stands where state and puts say, where they are of its, and where so many samples
 /// have room for their values. Whether there is memory is told last.
-fn formed_behind(
+pub(crate) fn formed_behind(
     alloc: Global,
     taps: &[i64],
     lent: &PhaseFirForm,
