@@ -420,8 +420,8 @@ def begins_soon():
 
 LOOKS = (
     nothing_else, unpacked, proved_tells, tells_whose, links_lead, links_little, alone, hardened,
-    package, readme, of_library, man, completion, in_c, of_processors, in_rust, as_crates, in_python,
-    rows, begins_soon,
+    package, readme, of_library, man, completion, in_c, of_processors, in_rust, as_crates,
+    in_python, rows, begins_soon,
 )
 
 
