@@ -15,7 +15,7 @@ class Maker:
     def __init__(self, seed, with_children):
         self.random, self.phasers, self.tasks, self.files = random.Random(seed), [], [], {}
         self.singles, self.bounds = set(), []
-        self.version = self.random.choice([1, 1, 2, 3]) if with_children else 1
+        self.version = self.random.choice([1, 2, 3, 3]) if with_children else 1
         for _ in range(self.random.randint(1, 3)):
             self.sources(self.phaser())
         for _ in range(self.random.randint(0, 4)):
@@ -68,8 +68,8 @@ class Maker:
         return f" block={self.random.randint(1, min(self.bounds[p] for p in phasers))}"
 
     def taps(self):
-        """What a filter does: in a text 3 half of them do more than weigh."""
-        roll, more = self.random, self.version == 3 and self.random.random() < 0.5
+        """What a filter does: in a text 3 most of them do more than weigh."""
+        roll, more = self.random, self.version == 3 and self.random.random() < 0.8
         taps = [roll.randint(-3, 3) for _ in range(roll.randint(1, 4))]
         shift, age, plus, again, single = roll.choice([0, 0, 1, 2]), "", "", "", ""
         if more and roll.random() < 0.3:

@@ -1,7 +1,7 @@
 """A graph that is run event by event, and the values of its sinks.
 
-It composes no lists: it moves tasks event by event, as they would run, and checks no range. It
-reads graphs that are right. Blocks are made step by step.
+It composes no lists: it moves tasks event by event, as they would run. No range ends a run: which
+values are out of it is told apart. It reads graphs that are right. Blocks are made step by step.
 """
 import os
 from functools import reduce
@@ -14,6 +14,7 @@ OPERATIONS = {
     "any": lambda sends: sends[0],
 }
 ENDED = "ended"
+MOST = 2 ** 63 - 1
 
 # Why a source stands still whose samples have all gone, and may have others behind them.
 HUNGRY = ("hungry", None)
@@ -36,6 +37,7 @@ class Phaser:
     def __init__(self, operation, bound, single):
         self.operation, self.bound, self.single = OPERATIONS[operation], bound, single
         self.signalled, self.waited, self.sends, self.top = {}, {}, {}, 0
+        self.too_big = set()
 
     def has_room(self, task):
         if self.bound is None or not self.waited:
@@ -55,7 +57,10 @@ class Phaser:
         if phase >= done:
             return None if self.signalled else ENDED
         self.waited[task] = phase + 1
-        return applied(self.single, self.operation(self.sends[phase]))
+        value = self.operation(self.sends[phase])
+        if abs(value) > MOST and max(map(abs, self.sends[phase])) <= MOST:
+            self.too_big.add(phase)
+        return applied(self.single, value)
 
 
 
@@ -95,6 +100,7 @@ class Task:
             outputs = 1
         self.inputs, self.outputs = ends[:inputs], ends[inputs : inputs + outputs]
         self.steps, self.values, self.window, self.puts = 0, [], [], []
+        self.too_big, self.took_too_big = set(), False
 
     def read_filter(self, rest):
         """Reads what a filter does, and gives the words before that."""
@@ -159,6 +165,7 @@ class Task:
                 return ENDED
             yield value is not None
             if value is not None:
+                self.took_too_big |= abs(value) > MOST
                 return value
 
     def put(self, phaser, value):
@@ -197,6 +204,8 @@ class Task:
             exchange = phasers[self.inputs[1]]
             yield from self.put(exchange, value)
             value = self.mul * value - (yield from self.take(exchange))
+        if self.kind in ("fir", "peer") and abs(value) > MOST and not self.took_too_big:
+            self.too_big.add(self.steps)
         if self.kind == "decimate" and self.steps % self.every != 0:
             return None
         turn = self.steps % len(self.outputs) if self.kind == "split" else 0
@@ -285,6 +294,15 @@ def stalls(file):
         come = ", ".join(f"{task} has come to phase {phase}" for task, phase in waited.items())
         lines.append(f"{names[phaser]}: {come}")
     return lines
+
+
+def first_too_big(file):
+    """The first step of each task and the first phase of each phaser whose value is out of range
+    and comes of none that is, by their names, where a graph has no bounds."""
+    graph = Graph(file, False, {})
+    graph.run()
+    makers = {**graph.phasers, **{task.name: task for task in graph.tasks}}
+    return {name: min(it.too_big) for name, it in makers.items() if it.too_big}
 
 
 def heading(sink):
