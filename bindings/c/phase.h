@@ -49,7 +49,7 @@ enum {
     PHASE_E_ROOM = -5,
     /* There was no memory, or a list has more values than any memory holds. */
     PHASE_E_MEMORY = -6,
-    /* No filter has these taps and this shift. */
+    /* No filter has these taps and this shift, or this form. */
     PHASE_E_TAPS = -7
 };
 
@@ -79,7 +79,7 @@ enum { PHASE_NO_START = -1 };
 #define PHASE_PHASERS_MAX 64
 #define PHASE_TASKS_MAX 64
 
-/* The most taps of a filter. */
+/* The most taps of a filter that has no form. */
 #define PHASE_TAPS_MAX 64
 
 /* The most samples of a source. */
@@ -164,6 +164,40 @@ int32_t phase_fir(const int64_t *taps, size_t taps_len, uint32_t shift,
 int32_t phase_fir_in_place(const int64_t *taps, size_t taps_len, uint32_t shift,
                            int64_t *state, size_t state_len,
                            int64_t *block, size_t block_len, size_t *done);
+
+/* The form of a filter. Where it is all zero the filter weighs its samples alone. */
+typedef struct phase_fir_form {
+    uint32_t shift;  /* by how many bits each sum is shifted down, at most 62 */
+    uint32_t single; /* PHASE_NO_SINGLE, or what is done with the number behind the shift */
+    int64_t plus;    /* what is added to each sum, of a magnitude of at most 2^62 */
+    size_t delay;    /* how many samples before the newest the first tap weighs, at most 65,536 */
+    size_t again;    /* how many taps, the last ones, weigh what the filter put, at most 64 */
+    int64_t low;     /* the ends of a PHASE_CLAMP, else not read */
+    int64_t high;
+} phase_fir_form;
+
+/* A filter of any form over a block of samples. Of the taps that weigh what it put the first weighs
+ * what it put last; each other tap, of which there are 1 to 1,024, a sample. The single is done
+ * before the range is looked at, so that a clamp saturates.
+ *
+ * state has the last samples before the block, the form's delay and one for each tap that weighs a
+ * sample, and puts the last values that it put, the form's again: the oldest first, and zeros where
+ * there were none. So a filter begins with zeros in both, and goes on with what the block before
+ * left there; with other numbers in puts the values are those of no stream. At PHASE_OK both have
+ * those of the block too, and a refusal leaves both as they were.
+ *
+ * PHASE_E_TAPS says that no filter has these taps and this form, and PHASE_E_COUNTS that state or
+ * puts is too short or too long. All else is as at phase_fir. */
+int32_t phase_fir_with(const int64_t *taps, size_t taps_len, const phase_fir_form *form,
+                       int64_t *state, size_t state_len, int64_t *puts, size_t puts_len,
+                       const int64_t *block, size_t block_len,
+                       int64_t *out, size_t out_len, size_t *done);
+
+/* The same, but each value is written over its sample, as phase_fir_in_place does it. It takes
+ * memory for a second state. */
+int32_t phase_fir_with_in_place(const int64_t *taps, size_t taps_len, const phase_fir_form *form,
+                                int64_t *state, size_t state_len, int64_t *puts, size_t puts_len,
+                                int64_t *block, size_t block_len, size_t *done);
 
 /* ---- A phaser for one thread at a time.
  *

@@ -123,6 +123,26 @@ pub struct PhaseCounts {
     pub sinks: usize,
 }
 
+/// The form of a filter.
+#[repr(C)]
+#[derive(Clone, Copy, Debug, Default, PartialEq, Eq)]
+pub struct PhaseFirForm {
+    /// By how many bits each sum is shifted down.
+    pub shift: u32,
+    /// `PHASE_NO_SINGLE`, or what is done with the number behind the shift.
+    pub single: u32,
+    /// What is added to each sum.
+    pub plus: i64,
+    /// How many samples before the newest the first tap weighs.
+    pub delay: usize,
+    /// How many taps, the last ones, weigh what the filter put.
+    pub again: usize,
+    /// The low end of a clamp.
+    pub low: i64,
+    /// The high end of a clamp.
+    pub high: i64,
+}
+
 /// The place of a phaser, which has none while all of it is zero.
 #[repr(C)]
 #[derive(Debug)]
@@ -222,6 +242,38 @@ unsafe extern "C" {
         shift: u32,
         state: *mut i64,
         state_len: usize,
+        block: *mut i64,
+        block_len: usize,
+        done: *mut usize,
+    ) -> i32;
+
+    /// # Safety
+    /// As of `phase_check`.
+    pub fn phase_fir_with(
+        taps: *const i64,
+        taps_len: usize,
+        form: *const PhaseFirForm,
+        state: *mut i64,
+        state_len: usize,
+        puts: *mut i64,
+        puts_len: usize,
+        block: *const i64,
+        block_len: usize,
+        out: *mut i64,
+        out_len: usize,
+        done: *mut usize,
+    ) -> i32;
+
+    /// # Safety
+    /// As of `phase_check`.
+    pub fn phase_fir_with_in_place(
+        taps: *const i64,
+        taps_len: usize,
+        form: *const PhaseFirForm,
+        state: *mut i64,
+        state_len: usize,
+        puts: *mut i64,
+        puts_len: usize,
         block: *mut i64,
         block_len: usize,
         done: *mut usize,

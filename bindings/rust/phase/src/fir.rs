@@ -1,4 +1,5 @@
 //! A filter that goes on from block to block.
+use crate::phaser::{Single, numbers_of};
 use phase_sys::*;
 use std::fmt;
 
@@ -6,7 +7,8 @@ use std::fmt;
 #[derive(Clone, Copy, Debug, PartialEq, Eq)]
 #[non_exhaustive]
 pub enum FirError {
-    /// There are 1 to 64 taps of a magnitude of at most 2^31 - 1, and a shift is at most 62.
+    /// There are 1 to 64 taps of a magnitude of at most 2^31 - 1, and a shift is at most 62; or
+    /// with a form 1 to 1,024 taps that weigh samples, and numbers that [`FirForm`] allows.
     Taps,
     /// The output is shorter than the block.
     Room,
@@ -22,7 +24,7 @@ pub enum FirError {
 impl fmt::Display for FirError {
     fn fmt(&self, f: &mut fmt::Formatter<'_>) -> fmt::Result {
         match self {
-            FirError::Taps => f.write_str("no filter has these taps and this shift"),
+            FirError::Taps => f.write_str("no filter has these taps and this shift or form"),
             FirError::Room => f.write_str("the output is shorter than the block"),
             FirError::TooBig { done } => write!(f, "value {done} of a block is out of range"),
             FirError::OutOfMemory => f.write_str("out of memory"),
@@ -32,10 +34,27 @@ impl fmt::Display for FirError {
 
 impl std::error::Error for FirError {}
 
-/// A filter with a finite impulse response, which goes on where the block before ended.
+/// The form of a filter: all of it but its taps. By default it weighs samples alone.
+#[derive(Clone, Copy, Debug, Default, PartialEq, Eq, Hash)]
+pub struct FirForm {
+    /// By how many bits each sum is shifted down, at most 62.
+    pub shift: u32,
+    /// What is added to each sum before it is shifted, of a magnitude of at most 2^62.
+    pub plus: i64,
+    /// How many samples before the newest one the first tap weighs, at most 65,536.
+    pub delay: usize,
+    /// How many of the taps, the last ones, weigh what the filter put, at most 64: the first of
+    /// them what it put last.
+    pub again: usize,
+    /// What is done with each number behind the shift, before its range is looked at: so a clamp
+    /// saturates. The low end of a clamp is at most its high end, and neither is `i64::MIN`.
+    pub single: Option<Single>,
+}
+
+/// A filter, which goes on where the block before ended.
 ///
 /// The value at a sample is the sum of each tap times the sample so far back, divided by 2 to the
-/// power of the shift and rounded down.
+/// power of the shift and rounded down. With a form the last taps may weigh what it put before.
 ///
 /// ```
 /// let mut sums = phase::Fir::new(&[1, 1], 0)?;
@@ -50,8 +69,9 @@ impl std::error::Error for FirError {}
 #[derive(Clone, Debug, PartialEq, Eq)]
 pub struct Fir {
     taps: Vec<i64>,
-    shift: u32,
+    form: PhaseFirForm,
     state: Vec<i64>,
+    puts: Vec<i64>,
 }
 
 impl Fir {
@@ -61,9 +81,44 @@ impl Fir {
     ///
     /// It is refused as `Taps` or `OutOfMemory`.
     pub fn new(taps: &[i64], shift: u32) -> Result<Fir, FirError> {
-        let state = vec![0; taps.len().saturating_sub(1)];
-        let mut fir = Fir { taps: taps.to_vec(), shift, state };
-        // A block of no sample tells whether there is such a filter.
+        if taps.len() > PHASE_TAPS_MAX {
+            return Err(FirError::Taps);
+        }
+        Fir::with(taps, FirForm { shift, ..FirForm::default() })
+    }
+
+    /// Returns a filter of this form before its first sample.
+    ///
+    /// # Errors
+    ///
+    /// It is refused as `Taps` or `OutOfMemory`.
+    ///
+    /// # Example
+    ///
+    /// ```
+    /// use phase::{Fir, FirForm, Single};
+    /// let form = FirForm {
+    ///     again: 1,
+    ///     single: Some(Single::Clamp { low: -5, high: 5 }),
+    ///     ..FirForm::default()
+    /// };
+    /// let mut so_far = Fir::with(&[1, 1], form)?;
+    /// let mut block = [3, 3, 3, -20];
+    /// so_far.filter_in_place(&mut block)?;
+    /// assert_eq!(block, [3, 5, 5, -5]);
+    /// # Ok::<(), phase::FirError>(())
+    /// ```
+    pub fn with(taps: &[i64], form: FirForm) -> Result<Fir, FirError> {
+        let FirForm { shift, plus, delay, again, single } = form;
+        let (single, low, high) = numbers_of(single);
+        let form = PhaseFirForm { shift, single, plus, delay, again, low, high };
+        let mut fir = Fir { taps: taps.to_vec(), form, state: Vec::new(), puts: Vec::new() };
+        // A state of no sample fits no filter, and its length is looked at behind taps and form.
+        if fir.over(&mut [], &mut 0) == PHASE_E_TAPS {
+            return Err(FirError::Taps);
+        }
+        fir.state = vec![0; delay + (taps.len() - again)];
+        fir.puts = vec![0; again];
         fir.filter_in_place(&mut [])?;
         Ok(fir)
     }
@@ -78,12 +133,14 @@ impl Fir {
         // SAFETY: each pointer and length are those of one slice, and what is written is borrowed
         // for this call alone.
         let status = unsafe {
-            phase_fir(
+            phase_fir_with(
                 self.taps.as_ptr(),
                 self.taps.len(),
-                self.shift,
+                &self.form,
                 self.state.as_mut_ptr(),
                 self.state.len(),
+                self.puts.as_mut_ptr(),
+                self.puts.len(),
                 block.as_ptr(),
                 block.len(),
                 out.as_mut_ptr(),
@@ -112,20 +169,27 @@ impl Fir {
     /// ```
     pub fn filter_in_place(&mut self, block: &mut [i64]) -> Result<(), FirError> {
         let mut done = 0;
+        let status = self.over(block, &mut done);
+        told(status, done)
+    }
+
+    /// What libphase answers to a block whose values are written over its samples.
+    fn over(&mut self, block: &mut [i64], done: &mut usize) -> i32 {
         // SAFETY: as above.
-        let status = unsafe {
-            phase_fir_in_place(
+        unsafe {
+            phase_fir_with_in_place(
                 self.taps.as_ptr(),
                 self.taps.len(),
-                self.shift,
+                &self.form,
                 self.state.as_mut_ptr(),
                 self.state.len(),
+                self.puts.as_mut_ptr(),
+                self.puts.len(),
                 block.as_mut_ptr(),
                 block.len(),
-                &mut done,
+                done,
             )
-        };
-        told(status, done)
+        }
     }
 }
 

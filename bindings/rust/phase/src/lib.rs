@@ -24,7 +24,7 @@ pub mod shared;
 mod stream;
 
 pub use error::{Error, FaultKind, Place};
-pub use fir::{Fir, FirError};
+pub use fir::{Fir, FirError, FirForm};
 pub use phase_sys::PhaseCounts as Counts;
 use phase_sys::{
     PHASE_E_ROOM, PHASE_NO_START, PHASE_OK, PHASE_SAMPLES_MAX, PhaseCounts, PhaseFault,
