@@ -169,32 +169,36 @@ int32_t phase_fir_in_place(const int64_t *taps, size_t taps_len, uint32_t shift,
                            int64_t *state, size_t state_len,
                            int64_t *block, size_t block_len, size_t *done);
 
-/* What a filter does beside weighing its newest samples; all zero it does no more. */
+/* The form of a filter. Where it is all zero the filter weighs its samples alone. */
 typedef struct phase_fir_form {
-    uint32_t shift;   /* bits, 0 to 62: each sum is divided by 2 to that power and rounded down */
-    uint32_t single;  /* PHASE_NO_SINGLE, or what is applied behind the shift: PHASE_NEG, .. */
-    int64_t plus;     /* added to each sum before it is shifted; a magnitude of 2^62 at most */
-    size_t delay;     /* the first tap weighs the sample so far back; PHASE_DELAY_MAX at most */
-    size_t again;     /* how many of the taps, the last ones, weigh what the filter put */
-    int64_t low;      /* the ends of PHASE_CLAMP */
+    uint32_t shift;  /* by how many bits each sum is shifted down, at most 62 */
+    uint32_t single; /* PHASE_NO_SINGLE, or what is done with the number behind the shift */
+    int64_t plus;    /* what is added to each sum, of a magnitude of at most 2^62 */
+    size_t delay;    /* how many samples before the newest the first tap weighs, at most 65,536 */
+    size_t again;    /* how many taps, the last ones, weigh what the filter put, at most 64 */
+    int64_t low;     /* the ends of a PHASE_CLAMP, else not read */
     int64_t high;
 } phase_fir_form;
 
-/* The same by a form, as the line `fir` of a text 3 has it. The last form->again taps, at most
- * PHASE_AGAIN_MAX, weigh the values that the filter put, the first of them the one before; the
- * others, 1 to PHASE_FORM_TAPS_MAX, weigh samples. A single is applied to the whole number that the
- * filter comes to, before its range is looked at, so that a clamp saturates.
+/* A filter of any form over a block of samples. Of the taps that weigh what it put the first weighs
+ * what it put last; each other tap, of which there are 1 to 1,024, a sample. The single is done
+ * before the range is looked at, so that a clamp saturates.
  *
- * state has the last form->delay + taps_len - form->again samples before the block, and puts the
- * last form->again values, each the oldest first, and zeros where there were none; at PHASE_OK both
- * have those of the block too. PHASE_E_TAPS also says that no filter has the form, and
- * PHASE_E_COUNTS that state or puts has another length. */
+ * state has the last samples before the block, the form's delay and one for each tap that weighs a
+ * sample, and puts the last values that it put, the form's again: the oldest first, and zeros where
+ * there were none. So a filter begins with zeros in both, and goes on with what the block before
+ * left there; with other numbers in puts the values are those of no stream. At PHASE_OK both have
+ * those of the block too, and a refusal leaves both as they were.
+ *
+ * PHASE_E_TAPS says that no filter has these taps and this form, and PHASE_E_COUNTS that state or
+ * puts is too short or too long. All else is as at phase_fir. */
 int32_t phase_fir_with(const int64_t *taps, size_t taps_len, const phase_fir_form *form,
                        int64_t *state, size_t state_len, int64_t *puts, size_t puts_len,
                        const int64_t *block, size_t block_len,
                        int64_t *out, size_t out_len, size_t *done);
 
-/* The same, but each value is written over its sample, as by phase_fir_in_place. */
+/* The same, but each value is written over its sample, as phase_fir_in_place does it. It takes
+ * memory for a second state. */
 int32_t phase_fir_with_in_place(const int64_t *taps, size_t taps_len, const phase_fir_form *form,
                                 int64_t *state, size_t state_len, int64_t *puts, size_t puts_len,
                                 int64_t *block, size_t block_len, size_t *done);

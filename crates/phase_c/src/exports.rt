@@ -9,8 +9,8 @@ ghost use Rattle.phase_c.specs.Told.{CheckIsRefused, Counted, EvalIsRefused, Nam
 
 use crate::evaluate::evaluate;
 use crate::filter::{filter_block, filter_status_of};
-use crate::formed::{PhaseFirForm, filter_formed};
-use crate::in_place::{filter_in_place, formed_in_place};
+use crate::formed::{PhaseFirForm, filter_formed, formed_in_place};
+use crate::in_place::filter_in_place;
 use crate::names::{write_all_names, write_names};
 use crate::refusal::Refusal;
 use crate::sinks::sinks_of;

@@ -1,10 +1,12 @@
-//! A filter of any form over a block of samples, which goes on where the block before it ended.
+//! A filter of any form over a block of samples, which goes on where the block before it ended, and
+//! one whose values take the places of the samples.
 ghost use Rattle.std.specs.Prelude.{◌≡◌, ◌↔◌, ◌≤◌, ℤ, List, length, IsTrue, IfSome, Some, OnOk, OnErr, IfOk, IfErr};
 ghost use Rattle.stream_filters.specs.Filter.{AreTaps, StandsFor};
 ghost use Rattle.stream_filters.specs.declared.form.Form.{Form as FormValue};
 ghost use Rattle.phase_c.specs.Formed.{AreOfForm, AreReached, FiltersAllFormed, IsNamed, NamesForm, RefusesFormed, ShowsStream, StateStays};
 
 use crate::filter::{FilterRefusal, keep, steps};
+use crate::in_place::steps_in_place;
 use handle_numbers::single_of;
 use std::alloc::Global;
 use stream_filters::{Fir, FirFault, Form};
@@ -56,7 +58,7 @@ fn are_reached(taps: &[i64], form: &Form, state: &[i64], puts: &[i64]) -> bool
 
 /// A filter that stands where state and puts say, where they are of its, and where so many samples
 /// have room for their values. Whether there is memory is told last.
-pub(crate) fn formed_behind(
+fn formed_behind(
     alloc: Global,
     taps: &[i64],
     lent: &PhaseFirForm,
@@ -126,5 +128,42 @@ pub(crate) fn filter_formed(
     }
     keep(state, block);
     keep(puts, &out[..block.len()]);
+    Ok(())
+}
+
+/// Filters a block behind what a state and puts show, each value over its sample, writes how many
+/// values are right, and keeps the last samples and the last puts where all are.
+pub(crate) fn formed_in_place(
+    alloc: Global,
+    taps: &[i64],
+    lent: &PhaseFirForm,
+    state: &mut [i64],
+    puts: &mut [i64],
+    block: &mut [i64],
+    done: &mut usize,
+) -> Result<(), FilterRefusal>
+    ensures done { OnOk result (IsNamed lent.now (λ form. FiltersAllFormed taps.now form
+        state.old state.new puts.old puts.new block.old block.old block.new done.new)) }
+    ensures refused { IfErr result (λ why. RefusesFormed taps.now lent.now state.old puts.old
+        block.old block.old block.new done.new why) }
+    ensures same { OnErr result (StateStays state.old state.new puts.old puts.new) }
+{
+    *done = 0;
+    let mut fir = match formed_behind(alloc, taps, lent, state, puts, block.len(), block.len()) {
+        Ok(fir) => fir,
+        Err(why) => return Err(why),
+    };
+    // The last samples are kept before values take their places.
+    let mut last = match Vec::from_slice(alloc, state) {
+        Ok(last) => last,
+        Err(_) => return Err(FilterRefusal::OutOfMemory),
+    };
+    keep(&mut last, block);
+    *done = steps_in_place(&mut fir, block);
+    if *done < block.len() {
+        return Err(FilterRefusal::TooBig);
+    }
+    state.copy_from_slice(&last);
+    keep(puts, block);
     Ok(())
 }

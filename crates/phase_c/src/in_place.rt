@@ -3,16 +3,14 @@ ghost use Rattle.std.specs.Prelude.{◌≡◌, ◌≤◌, ◌<◌, ℤ, List, le
 ghost use Rattle.phase_accum.specs.Sends.{AreSends, IsSend};
 ghost use Rattle.stream_filters.specs.Filter.{StandsFor, by_shift};
 ghost use Rattle.phase_c.specs.Filtered.{FiltersAll, RefusesBlock, first_outputs, output_in_block};
-ghost use Rattle.phase_c.specs.Formed.{FiltersAllFormed, IsNamed, RefusesFormed, StateStays};
 
 use crate::filter::{FilterRefusal, filter_behind, keep};
-use crate::formed::{PhaseFirForm, formed_behind};
 use std::alloc::Global;
 use stream_filters::{FEW_TAPS_MAX, Fir};
 
 /// Writes what a filter answers at each sample of a block over the sample, up to the first value
 /// that is out of range, and returns how many it wrote.
-fn steps_in_place(fir: &mut Fir, block: &mut [i64]) -> usize
+pub(crate) fn steps_in_place(fir: &mut Fir, block: &mut [i64]) -> usize
     ensures few { result ≤ length block.old }
     ensures written { (before : List ℤ) → StandsFor fir.old before → take result block.new
         ≡ first_outputs fir.old.taps fir.old.form before block.old result }
@@ -62,42 +60,5 @@ pub(crate) fn filter_in_place(
         return Err(FilterRefusal::TooBig);
     }
     state.copy_from_slice(last);
-    Ok(())
-}
-
-/// Filters a block behind what a state and puts show, each value over its sample, writes how many
-/// values are right, and keeps the last samples and the last puts where all are.
-pub(crate) fn formed_in_place(
-    alloc: Global,
-    taps: &[i64],
-    lent: &PhaseFirForm,
-    state: &mut [i64],
-    puts: &mut [i64],
-    block: &mut [i64],
-    done: &mut usize,
-) -> Result<(), FilterRefusal>
-    ensures done { OnOk result (IsNamed lent.now (λ form. FiltersAllFormed taps.now form
-        state.old state.new puts.old puts.new block.old block.old block.new done.new)) }
-    ensures refused { IfErr result (λ why. RefusesFormed taps.now lent.now state.old puts.old
-        block.old block.old block.new done.new why) }
-    ensures same { OnErr result (StateStays state.old state.new puts.old puts.new) }
-{
-    *done = 0;
-    let mut fir = match formed_behind(alloc, taps, lent, state, puts, block.len(), block.len()) {
-        Ok(fir) => fir,
-        Err(why) => return Err(why),
-    };
-    // The last samples are kept before values take their places.
-    let mut last = match Vec::from_slice(alloc, state) {
-        Ok(last) => last,
-        Err(_) => return Err(FilterRefusal::OutOfMemory),
-    };
-    keep(&mut last, block);
-    *done = steps_in_place(&mut fir, block);
-    if *done < block.len() {
-        return Err(FilterRefusal::TooBig);
-    }
-    state.copy_from_slice(&last);
-    keep(puts, block);
     Ok(())
 }

@@ -1,7 +1,7 @@
 use Rattle.std.proofs.Common.{◌≡◌, ◌<◌, ◌++◌, ℕ, length, take, drop, refl, sym, ap, ◌∙◌, arith}
 use Rattle.std.proofs.lemmas.List.{length-drop, take_all, take-append-le}
 use Rattle.phase_c.proofs.Forms.{formed_all, formed_to, kept_long}
-use Rattle.phase_c.proofs.in_place.formed_in_place.Goals as goal
+use Rattle.phase_c.proofs.formed.formed_in_place.Goals as goal
 
 -- nothing was written
 pub returns-in-Err-clause-refused : goal.returns-in-Err-clause-refused
