@@ -262,7 +262,7 @@ fn add_outputs(
 /// that it returns, and no other. `BadTaps` comes first.
 ///
 /// **Speed.** Outputs are made 16 at once where the samples are small enough for the taps that 64
-/// bits hold each sum; where a filter also weighs what it puts, or applies a single, their sums are.
+/// bits hold each sum; where a filter also weighs what it puts, or applies a single, its sums are.
 pub fn filter_list(
     alloc: Global,
     taps: &[i64],
