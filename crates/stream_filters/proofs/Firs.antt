@@ -40,6 +40,10 @@ length-again taps form are =
 pub length-ahead : (taps : List ℤ) (form : Form) → length (taps_ahead taps form) ≡ length taps - form.again
 length-ahead taps form = length-take-le (length taps - form.again) taps (omega arith)
 
+-- the taps behind some are all that are left
+pub rest : (taps : List ℤ) (k : ℕ) → take (length taps - k) (drop k taps) ≡ drop k taps
+rest taps k = take_all (length taps - k) (drop k taps) (omega (arith, length-drop k taps))
+
 -- the taps for samples are ones
 pub AreAhead-taps : (taps : List ℤ) (form : Form) → AreTaps taps form
     → AreAhead (taps_ahead taps form) form

@@ -1,13 +1,13 @@
 -- A list that is made one by one: it has what was put so far.
-use Rattle.std.proofs.Common.{◌≡◌, ℕ, ◌+◌, ◌<◌, List, [], ◌∷◌, ◌++◌, length, get_or, map, take, drop, ℤ, pos, Bool, true, false, refl, sym, ap, ◌∙◌, arith}
+use Rattle.std.proofs.Common.{◌≡◌, ℕ, ◌+◌, ◌<◌, List, [], ◌∷◌, ◌++◌, length, get_or, map, take, ℤ, pos, Bool, true, false, refl, sym, ap, ◌∙◌}
 use Rattle.std.specs.Prelude.{Ok, if◌then◌else◌}
-use Rattle.std.proofs.lemmas.List.{length-take-le, map-append, take_all, take_more, take-append-drop, take-append-le}
+use Rattle.std.proofs.lemmas.List.{map-append, take_more}
 use Rattle.stream_filters.specs.declared.form.Form.{Form}
-use Rattle.stream_filters.specs.Filter.{output_after, output_behind, outputs, outputs_of_block, put_of, puts_of}
+use Rattle.stream_filters.specs.Filter.{output_after, output_behind, outputs, put_of, puts_of}
 use Rattle.stream_filters.specs.FilterFields.{MadeSoFar}
 use Rattle.stream_filters.specs.Range.{is_out_of_range, ranged}
 use Rattle.stream_filters.proofs.Made.{ranged-ok}
-use Rattle.stream_filters.proofs.Outputs.{behind-take, output_after-push, outputs-block, outputs-entry, outputs-length}
+use Rattle.stream_filters.proofs.Outputs.{behind-take, output_after-push, outputs-entry}
 
 -- the output at the next sample
 pub next-output : (taps : List ℤ) (form : Form) (samples list : List ℤ) (n : ℕ)

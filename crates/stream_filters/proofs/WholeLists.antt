@@ -7,12 +7,13 @@ use Rattle.std.proofs.lemmas.List.{get_or_default, get_or-take, length-take-le}
 use Rattle.std.proofs.lemmas.List.Elements.{All-weaker}
 use Rattle.std.proofs.lemmas.List.FromFn.{get_or-map-range_with_len}
 use Rattle.std.proofs.lemmas.Simd.{length-chunk, get_or-chunk}
-use Rattle.stream_filters.specs.Sums.{back, weighted, shifted_down}
+use Rattle.stream_filters.specs.Sums.{back, summed, shifted_down}
+use Rattle.stream_filters.specs.Filter.{outputs}
 use Rattle.stream_filters.specs.Weighing.{AreAhead, span, weighed}
 use Rattle.stream_filters.specs.declared.form.Form.{Form}
 use Rattle.stream_filters.specs.WeigherFields.{AreSmall, AreSmallAt, IsNarrow}
-use Rattle.stream_filters.specs.FilterFields.{MadeSoFar}
-use Rattle.stream_filters.specs.Lanes.{before, output_shown}
+use Rattle.stream_filters.specs.FilterFields.{MadeSoFar, PutSoFar}
+use Rattle.stream_filters.specs.Lanes.{before, output_shown, sum_shown}
 use Rattle.stream_filters.specs.Range.{ranged}
 use Rattle.stream_filters.proofs.Made.{MadeSoFar-append}
 use Rattle.stream_filters.proofs.ManySums.{before-added-small}
@@ -81,6 +82,21 @@ back-entry samples n delay j within le =
     ∙ (get_or-take (n + 1) samples (n - (delay + j)) (pos 0) (omega arith)
     ∙ ap (λ i. get_or samples i (pos 0)) place)
 
+-- one of the sums of a block
+pub block-sum : (taps samples : List ℤ) (form : Form) (at k : ℕ) → 1 ≤ length taps
+    → span taps form ≤ at + 1 → at + 16 ≤ length samples → k < 16
+    → sum_shown taps form (shown taps samples (at - form.delay)) k
+    ≡ summed (back (take (at + k + 1) samples)) taps form
+block-sum taps samples form at k some long within lt =
+    let first = at - form.delay in
+    let long_first : length taps ≤ first + 1 = omega arith in
+    let within_first : first + 16 ≤ length samples = omega arith in
+    ap (λ z. z +ℤ form.plus) (weighted-same _ _ taps (λ j below.
+    let place : first + k - j ≡ at + k - form.delay - j = omega arith in
+    shown-before taps samples first k j long_first within_first lt below
+    ∙ (ap (λ i. get_or samples i (pos 0)) place
+    ∙ sym (back-entry samples (at + k) form.delay j (omega arith) (omega arith)))))
+
 -- one of the weighed of a block
 pub block-output : (taps samples : List ℤ) (form : Form) (at k : ℕ) → AreAhead taps form
     → AreSmallAt taps form.plus samples (at - form.delay) → span taps form ≤ at + 1
@@ -93,17 +109,10 @@ block-output taps samples form at k are small long within lt =
     let long_first : length taps ≤ first + 1 = omega arith in
     let within_first : first + 16 ≤ length samples = omega arith in
     let narrow = IsNarrow-shown taps samples form first are small long_first within_first in
-    let sum = weighted (before (shown taps samples first) (length taps - 1 + k)) taps in
-    let sum_is : sum
-    ≡ weighted (λ j. back (take (at + k + 1) samples) (form.delay + j)) taps =
-    weighted-same _ _ taps (λ j below.
-    let place : first + k - j ≡ at + k - form.delay - j = omega arith in
-    shown-before taps samples first k j long_first within_first lt below
-    ∙ (ap (λ i. get_or samples i (pos 0)) place
-    ∙ sym (back-entry samples (at + k) form.delay j (omega arith) (omega arith)))) in
     ap ranged (weighed-entry taps form samples (at + k) (pos 0) (omega arith))
-    ∙ (ap (λ z. ranged (shifted_down (z +ℤ form.plus) form.shift)) (sym sum_is)
-    ∙ ranged-shifted_down (sum +ℤ form.plus) form.shift
+    ∙ (ap (λ z. ranged (shifted_down z form.shift))
+    (sym (block-sum taps samples form at k some long within lt))
+    ∙ ranged-shifted_down (sum_shown taps form (shown taps samples first) k) form.shift
     (before-added-small taps form.plus (shown taps samples first) narrow (length taps - 1 + k)))
 
 -- the weighed of n samples
@@ -144,6 +153,15 @@ OnOk-extended (Err e) P old block new is made = tt
 pub record AreFiltered (taps : List ℤ) (form : Form) (samples list : List ℤ)
     (at small_from limit : ℕ) : Type 0 where
   pub made : MadeSoFar (weighed taps form samples) list at
+  pub within : at ≤ length samples
+  pub from : small_from ≤ at
+  pub small : AreSmall limit samples small_from at
+
+-- the outputs at the samples before number `at`, which were put, and from where on these are within
+-- the limit
+pub record AreInTurn (taps : List ℤ) (form : Form) (samples list : List ℤ)
+    (at small_from limit : ℕ) : Type 0 where
+  pub put : PutSoFar (outputs taps form samples) list at
   pub within : at ≤ length samples
   pub from : small_from ≤ at
   pub small : AreSmall limit samples small_from at

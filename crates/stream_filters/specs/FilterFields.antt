@@ -1,7 +1,7 @@
 -- What the fields of a filter stand for, and what its steps leave.
-use Rattle.std.specs.Prelude.{◌≡◌, ◌+◌, ◌-◌, ◌≤◌, ◌++◌, ℕ, ℤ, List, length, take, drop, vec_capacity}
+use Rattle.std.specs.Prelude.{◌≡◌, ◌+◌, ◌-◌, ◌≤◌, ◌++◌, ℕ, ℤ, List, length, map, take, drop, vec_capacity}
 use Rattle.std.specs.List.{position_from}
-use Rattle.stream_filters.specs.Filter.{FirState, AreTaps, StandsFor, outputs_of_block}
+use Rattle.stream_filters.specs.Filter.{FirState, AreTaps, StandsFor, outputs_of_block, put_of}
 use Rattle.stream_filters.specs.Range.{is_out_of_range, before_out_of_range}
 use Rattle.stream_filters.specs.WeigherFields.{window_of}
 use Rattle.stream_filters.specs.declared.fir.Fir.TheInside.{Inside}
@@ -38,3 +38,8 @@ pub record MadeSoFar (whole list : List ℤ) (n : ℕ) : Type 0 where
   pub list_is : list ≡ take n whole
   pub none_yet : position_from is_out_of_range 0 whole
       ≡ position_from is_out_of_range n (drop n whole)
+
+-- and it is what a filter put
+pub record PutSoFar (whole list : List ℤ) (n : ℕ) : Type 0 where
+  pub made : MadeSoFar whole list n
+  pub put : map put_of list ≡ list

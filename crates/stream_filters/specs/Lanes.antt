@@ -7,10 +7,14 @@ use Rattle.stream_filters.specs.declared.form.Form.{Form}
 abbrev pub before : List ℤ → ℕ → ℕ → ℤ
 before samples n j = get_or samples (n - j) (pos 0)
 
--- the output at the sample that stands k samples after the first one whose window these show
+-- the sum at the sample that stands k samples after the first one whose window these show
+abbrev pub sum_shown : List ℤ → Form → List ℤ → ℕ → ℤ
+sum_shown taps form samples k =
+    weighted (before samples (length taps - 1 + k)) taps +ℤ form.plus
+
+-- the output at that sample
 abbrev pub output_shown : List ℤ → Form → List ℤ → ℕ → ℤ
-output_shown taps form samples k =
-    shifted_down (weighted (before samples (length taps - 1 + k)) taps +ℤ form.plus) form.shift
+output_shown taps form samples k = shifted_down (sum_shown taps form samples k) form.shift
 
 -- 32 bits hold it
 pub record IsShort (x : ℤ) : Type 0 where

@@ -4,7 +4,7 @@ ghost use Rattle.std.specs.List.{range_with_len};
 ghost use Rattle.std.specs.Simd.Lanes.{zip2, Each1, Each2};
 ghost use Rattle.stream_filters.specs.Sums.{shifted_down};
 ghost use Rattle.stream_filters.specs.WeigherFields.{IsNarrow};
-ghost use Rattle.stream_filters.specs.Lanes.{output_shown, IsShort, AddsUp};
+ghost use Rattle.stream_filters.specs.Lanes.{output_shown, sum_shown, IsShort, AddsUp};
 
 use crate::fir::SHIFT_MAX;
 use crate::form::Form;
@@ -72,4 +72,16 @@ pub(crate) fn block_outputs(taps: &[i64], form: &Form, samples: &[i64]) -> [i64;
         sums = added(sums, scaled(lanes, taps[j]));
     }
     lanes_shifted(with_added(sums, form.plus), form.shift).to_array()
+}
+
+/// The sums at 16 samples one after the other with what is added to each, from the samples in their
+/// windows, where 64 bits hold them.
+pub(crate) fn block_sums(taps: &[i64], form: &Form, samples: &[i64]) -> [i64; 16]
+    requires enough { length samples.now ≡ length taps.now + 15 }
+    requires narrow { IsNarrow taps.now form.now.plus samples.now }
+    ensures { result ≡ map (sum_shown taps.now form.now samples.now) (range_with_len 0 16) }
+{
+    let mut unshifted = *form;
+    unshifted.shift = 0;
+    block_outputs(taps, &unshifted, samples)
 }

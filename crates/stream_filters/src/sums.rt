@@ -70,6 +70,14 @@ fn narrow_shifted(narrow: i64, shift: u32) -> i64
     narrow >> shift
 }
 
+/// The sum at the last of these samples with what is added to it, where 64 bits hold it.
+pub(crate) fn narrow_sum(taps: &[i64], form: &Form, samples: &[i64]) -> i64
+    requires { IsNarrowBack taps.now form.now.plus samples.now }
+    ensures { result ≡ weighted (back samples.now) taps.now +ℤ form.now.plus }
+{
+    narrow_sum_back(taps, samples) + form.plus
+}
+
 /// The output at the last of these samples, where 64 bits hold the sum.
 pub(crate) fn narrow_output(taps: &[i64], form: &Form, samples: &[i64]) -> i64
     requires narrow { IsNarrowBack taps.now form.now.plus samples.now }
@@ -77,7 +85,7 @@ pub(crate) fn narrow_output(taps: &[i64], form: &Form, samples: &[i64]) -> i64
     ensures { Ok result ≡ ranged (shifted_down
         (weighted (back samples.now) taps.now +ℤ form.now.plus) form.now.shift) }
 {
-    narrow_shifted(narrow_sum_back(taps, samples) + form.plus, form.shift)
+    narrow_shifted(narrow_sum(taps, form, samples), form.shift)
 }
 
 /// The sum at the last of these samples with what is added to it, of any size.

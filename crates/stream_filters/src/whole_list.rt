@@ -1,18 +1,18 @@
 //! A filter over a whole list of samples.
 ghost use Rattle.std.specs.Prelude.{◌≡◌, ◌↔◌, ◌+◌, ◌-◌, ◌≤◌, ℕ, [], length, IfOk, OnOk, IsTrue, None, Some, Err, unsigned_abs};
 ghost use Rattle.std.specs.List.{All, position_from};
-ghost use Rattle.stream_filters.specs.Filter.{AreTaps, outputs};
+ghost use Rattle.stream_filters.specs.Filter.{AreTaps, outputs, reach, taps_ahead};
 ghost use Rattle.stream_filters.specs.Weighing.{AreAhead, span, weighed, weighed_after};
 ghost use Rattle.stream_filters.specs.WeigherFields.{AreSmall, AreSmallAt};
-ghost use Rattle.stream_filters.specs.FilterFields.{MadeSoFar};
+ghost use Rattle.stream_filters.specs.FilterFields.{MadeSoFar, PutSoFar};
 ghost use Rattle.stream_filters.specs.Range.{is_out_of_range, ranged};
 
-use crate::blocks::{BLOCK, block_outputs};
+use crate::blocks::{BLOCK, block_outputs, block_sums};
 use crate::fault::{FilterFault, TooBigValue};
 use crate::fir::are_taps;
 use crate::form::{Form, is_plain};
 use crate::range::in_range;
-use crate::recursive::output_behind;
+use crate::recursive::{output_behind, output_for};
 use crate::sums::{earlier, narrow_limit, weight_of, wide_output};
 use std::alloc::{AllocError, Global};
 
@@ -132,8 +132,75 @@ fn add_all(
     Ok(())
 }
 
+/// Adds the outputs at the samples from number `at` to the one before number `end`, one by one. The
+/// list has what was put so far.
+fn add_each_in_turn(
+    list: &mut Vec<i64>,
+    taps: &[i64],
+    form: &Form,
+    samples: &[i64],
+    at: usize,
+    end: usize,
+) -> Result<(), FilterFault>
+    requires taps { AreTaps taps.now form.now }
+    requires within { (at ≤ end) × (end ≤ length samples.now) }
+    requires put { PutSoFar (outputs taps.now form.now samples.now) list.old.items at }
+    ensures put { OnOk result
+        (PutSoFar (outputs taps.now form.now samples.now) list.new.items end) }
+    ensures too_big { (step : ℕ) → result ≡ Err (FilterFault.TooBig step)
+        → position_from is_out_of_range 0 (outputs taps.now form.now samples.now) ≡ Some step }
+    ensures taps_stand { result ≡ Err FilterFault.BadTaps → ⊥ }
+{
+    for n in at..end {
+        let Ok(y) = in_range(output_behind(taps, form, &samples[..n + 1], list)) else {
+            return Err(FilterFault::TooBig(n));
+        };
+        let Ok(()) = list.push(y) else {
+            return Err(FilterFault::OutOfMemory);
+        };
+    }
+    Ok(())
+}
+
+/// Adds the outputs at 16 samples from number `at` on, one by one, where their sums are made at
+/// once: they and the samples that are still in the first one's window are small. The list has what
+/// was put so far.
+fn add_block_in_turn(
+    list: &mut Vec<i64>,
+    taps: &[i64],
+    form: &Form,
+    samples: &[i64],
+    at: usize,
+) -> Result<(), FilterFault>
+    requires taps { AreTaps taps.now form.now }
+    requires within { (reach taps.now form.now ≤ at + 1) × (at + 16 ≤ length samples.now) }
+    requires small { AreSmallAt (taps_ahead taps.now form.now) form.now.plus samples.now
+        (at - form.now.delay) }
+    requires put { PutSoFar (outputs taps.now form.now samples.now) list.old.items at }
+    ensures put { OnOk result
+        (PutSoFar (outputs taps.now form.now samples.now) list.new.items (at + 16)) }
+    ensures too_big { (step : ℕ) → result ≡ Err (FilterFault.TooBig step)
+        → position_from is_out_of_range 0 (outputs taps.now form.now samples.now) ≡ Some step }
+    ensures taps_stand { result ≡ Err FilterFault.BadTaps → ⊥ }
+{
+    let ahead = taps.len() - form.again;
+    let first = at - form.delay;
+    let shown = &samples[first + 1 - ahead..first + BLOCK];
+    let sums = block_sums(&taps[..ahead], form, shown);
+    for k in 0..BLOCK {
+        let sum = i128::from(sums[k]);
+        let Ok(y) = in_range(output_for(form, sum, &taps[ahead..], list)) else {
+            return Err(FilterFault::TooBig(at + k));
+        };
+        let Ok(()) = list.push(y) else {
+            return Err(FilterFault::OutOfMemory);
+        };
+    }
+    Ok(())
+}
+
 /// Makes the outputs at all samples one by one, or finds the first step at which one is out of
-/// range. The list has what was put so far.
+/// range.
 fn add_in_turn(
     list: &mut Vec<i64>,
     taps: &[i64],
@@ -149,13 +216,19 @@ fn add_in_turn(
         → position_from is_out_of_range 0 (outputs taps.now form.now samples.now) ≡ Some step }
     ensures taps_stand { result ≡ Err FilterFault.BadTaps → ⊥ }
 {
-    for n in 0..samples.len() {
-        let Ok(y) = in_range(output_behind(taps, form, &samples[..n + 1], list)) else {
-            return Err(FilterFault::TooBig(n));
-        };
-        let Ok(()) = list.push(y) else {
-            return Err(FilterFault::OutOfMemory);
-        };
+    let ahead = taps.len() - form.again;
+    let limit = narrow_limit(weight_of(&taps[..ahead]), form.plus);
+    let mut small_from = 0;
+    let mut at = 0;
+    while at < samples.len() {
+        let end = samples.len().min(at + BLOCK);
+        small_from = small_since(samples, limit, small_from, at, end);
+        if end == at + BLOCK && small_from + form.delay + ahead <= at + 1 {
+            add_block_in_turn(list, taps, form, samples, at)?;
+        } else {
+            add_each_in_turn(list, taps, form, samples, at, end)?;
+        }
+        at = end;
     }
     Ok(())
 }
@@ -189,7 +262,7 @@ fn add_outputs(
 /// that it returns, and no other. `BadTaps` comes first.
 ///
 /// **Speed.** Outputs are made 16 at once where the samples are small enough for the taps that 64
-/// bits hold each sum.
+/// bits hold each sum; where a filter also weighs what it puts, or applies a single, its sums are.
 pub fn filter_list(
     alloc: Global,
     taps: &[i64],

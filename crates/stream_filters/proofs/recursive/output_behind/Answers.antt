@@ -1,15 +1,10 @@
-use Rattle.std.proofs.Common.{rules, ℕ, ℤ, List, ◌≡◌, ◌-◌, ◌+ℤ◌, FitsSigned, to_z, of_z, length, take, drop, ap, ◌∙◌, arith}
+use Rattle.std.proofs.Common.{rules, ◌≡◌, ◌-◌, ◌+ℤ◌, FitsSigned, to_z, of_z, length, take, drop, ap, ◌∙◌}
 use Rattle.std.specs.Int.{w128}
 use Rattle.std.proofs.lemmas.Int.{to_z-of_z}
-use Rattle.std.proofs.lemmas.List.{length-drop, take_all}
 use Rattle.stream_filters.specs.Filter.{back, shifted_down, summed, taps_ahead, weighted, with_single}
-use Rattle.stream_filters.proofs.Firs.{again-light}
+use Rattle.stream_filters.proofs.Firs.{again-light, rest}
 use Rattle.stream_filters.proofs.Weighted.{weighted-same}
 use Rattle.stream_filters.proofs.recursive.output_behind.Goals as goal
-
--- the taps behind are all that are left
-rest : (taps : List ℤ) (k : ℕ) → take (length taps - k) (drop k taps) ≡ drop k taps
-rest taps k = take_all (length taps - k) (drop k taps) (omega (arith, length-drop k taps))
 
 -- which weigh little
 pub output_for-requires-clause-light : goal.output_for-requires-clause-light

@@ -1,0 +1,8 @@
+use Rattle.std.proofs.Common.{◌+◌}
+use Rattle.stream_filters.specs.Filter.{outputs}
+use Rattle.stream_filters.specs.FilterFields.{PutSoFar}
+use Rattle.stream_filters.proofs.whole_list.add_block_in_turn.Given as goal
+
+-- the outputs at the samples before this one, which were put
+abbrev pub invariant-loop-k : goal.invariant-loop-k
+invariant-loop-k l = PutSoFar (outputs l.taps l.form l.samples) l.list.items (l.at + l.k)
