@@ -176,6 +176,45 @@ for shift in (63, -1, 2**32, 2**32 + 1):
 look("a shift that is no whole number", refused(TypeError, phase.Fir, [1], 0.5))
 look("how it is shown", repr(phase.Fir([1, -1], 2)) == "Fir([1, -1], shift=2)")
 
+clamp = ("clamp", -5, 5)
+for name, fir, block, wanted in (
+    ("a sum so far", phase.Fir([1], again=[1]), [1, 2, 3, 4], [1, 3, 6, 10]),
+    ("the sum of the last two", phase.Fir([1], again=[1, 1]), [1, 0, 0, 0, 0], [1, 1, 2, 3, 5]),
+    ("a clamp saturates", phase.Fir([1], again=[1], single=clamp), [3, 3, 3, -20], [3, 5, 5, -5]),
+    ("a clamp by its name", phase.Fir([2], single=phase.Clamp(-5, 5)), [MOST, -3], [5, -5]),
+    ("a sign", phase.Fir([1], again=[1], single="neg"), [1, 2, 3], [-1, -1, -2]),
+    ("a magnitude", phase.Fir([1], single="abs"), [-3, 4], [3, 4]),
+    ("a half", phase.Fir([1], single="halve"), [-3, 4], [-2, 2]),
+    ("a sum, then the shift", phase.Fir([1], 1, plus=1, delay=1), [3, 4, -3], [0, 2, 2]),
+    ("1,024 taps", phase.Fir([1] + [0] * 1023, plus=1), [3, 4], [4, 5]),
+):
+    one_by_one, in_place = copy.copy(fir), numpy.array(block)
+    copy.copy(fir).in_place(in_place)
+    look(name, fir(block).tolist() == wanted == in_place.tolist())
+    look(f"{name}, one by one", [one_by_one([it])[0] for it in block] == wanted)
+    other = pickle.loads(pickle.dumps(fir))
+    look(f"{name}, and on from a copy", fir([1, 2]).tolist() == other([1, 2]).tolist())
+for name, taps, form in (
+    ("no tap for a sample", [], {"again": [1]}), ("65 taps again", [1], {"again": [1] * 65}),
+    ("1,025 taps", [1] * 1025, {"plus": 1}), ("a plus", [1], {"plus": 2**62 + 1}),
+    ("a plus of any size", [1], {"plus": -(2**64)}), ("a delay", [1], {"delay": 65537}),
+    ("a delay below 0", [1], {"delay": -1}), ("a delay of any size", [1], {"delay": 2**70}),
+    ("no such single", [1], {"single": "double"}), ("ends the other way", [1],
+    {"single": ("clamp", 1, 0)}), ("an end that is none", [1], {"single": ("clamp", -(2**63), 0)}),
+    ("a tap again of 2**31", [1], {"again": [2**31]}),
+):
+    look(name, refused(phase.TapsError, phase.Fir, taps, **form))
+look("a clamp with no ends", refused(TypeError, phase.Fir, [1], single="clamp"))
+so_far = phase.Fir([1], again=[1])
+why = refused(phase.TooBig, so_far, [MOST, 0, 1])
+look("what is put out of range", why and why.values.tolist() == [MOST, MOST])
+look("after which it stands where it stood", so_far([2]).tolist() == [2])
+look(
+    "how a form is shown",
+    repr(phase.Fir([1], 2, again=[3], single="neg"))
+    == "Fir([1], shift=2, again=[3], single='neg')",
+)
+
 taps = numpy.array([1, 1])
 sums = phase.Fir(taps)
 taps[0] = 9

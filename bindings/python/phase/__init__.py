@@ -468,6 +468,14 @@ class _Counts(ctypes.Structure):
     _fields_ = [(it, ctypes.c_size_t) for it in Counts._fields]
 
 
+class _FirForm(ctypes.Structure):
+    _fields_ = [
+        ("shift", ctypes.c_uint32), ("single", ctypes.c_uint32), ("plus", ctypes.c_int64),
+        ("delay", ctypes.c_size_t), ("again", ctypes.c_size_t), ("low", ctypes.c_int64),
+        ("high", ctypes.c_int64),
+    ]
+
+
 class _Place(ctypes.Structure):
     _fields_ = [("at", ctypes.c_void_p), ("live", ctypes.c_bool)]
 
@@ -512,12 +520,12 @@ def _load():
     text = [ctypes.c_char_p, ctypes.c_size_t]
     lib.phase_check.argtypes = text + [ctypes.POINTER(_Counts)] + fault
     lib.phase_eval.argtypes = text + array * 5 + fault
-    filtered = array + [ctypes.c_uint32] + array * 2
-    lib.phase_fir.argtypes = filtered + array + [ctypes.POINTER(ctypes.c_size_t)]
-    lib.phase_fir_in_place.argtypes = filtered + [ctypes.POINTER(ctypes.c_size_t)]
+    filtered = array + [ctypes.POINTER(_FirForm)] + array * 3
+    lib.phase_fir_with.argtypes = filtered + array + [ctypes.POINTER(ctypes.c_size_t)]
+    lib.phase_fir_with_in_place.argtypes = filtered + [ctypes.POINTER(ctypes.c_size_t)]
     lib.phase_names.argtypes = text + array + [ctypes.POINTER(ctypes.c_size_t)] + fault
     lib.phase_all_names.argtypes = lib.phase_names.argtypes
-    for name in ("check", "eval", "fir", "fir_in_place", "names", "all_names"):
+    for name in ("check", "eval", "fir_with", "fir_with_in_place", "names", "all_names"):
         getattr(lib, "phase_" + name).restype = ctypes.c_int32
     _load_phasers(lib, array)
     return lib
@@ -619,55 +627,92 @@ class Fir:
     array([1, 3, 5])
     >>> sums([4])
     array([7])
+
+    `plus` is added to each sum before it is shifted. The first tap weighs the sample `delay` before
+    the newest, and `again` are taps for the values that the filter put, the first for the last one.
+    A single, "neg", "abs", "halve" or ("clamp", low, high), is done with each number behind the
+    shift, before its range is looked at. With any of these there are up to 1,024 taps, else 64.
+
+    >>> phase.Fir([1], again=[1], single=("clamp", -5, 5))([3, 3, 3, -20])
+    array([ 3,  5,  5, -5])
     """
 
-    def __init__(self, taps: ArrayLike, shift: int = 0):
-        self.taps, self.shift = _whole(taps, _TAPS).copy(), operator.index(shift)
-        self.taps.flags.writeable = False
-        if not 0 <= self.shift < 2**32:
+    def __init__(
+        self, taps: ArrayLike, shift: int = 0, *, plus: int = 0, delay: int = 0,
+        again: ArrayLike = (), single: Union[str, tuple[str, int, int], None] = None,
+    ):
+        self.taps, self.again = _whole(taps, _TAPS).copy(), _whole(again, _TAPS).copy()
+        self.taps.flags.writeable = self.again.flags.writeable = False
+        self.shift, self.plus, self.delay = (operator.index(it) for it in (shift, plus, delay))
+        self.single = single
+        has_form = self.plus or self.delay or len(self.again) or single is not None
+        if not has_form and len(self.taps) > TAPS_MAX:
             raise TapsError
-        self._state = numpy.zeros(max(len(self.taps) - 1, 0), numpy.int64)
-        self._lock = threading.RLock()
-        # A block of no sample tells whether there is such a filter.
-        self([])
+        if not (0 <= self.shift < 2**32 and abs(self.plus) < 2**63 and 0 <= self.delay < 2**63):
+            raise TapsError
+        # A state of no sample fits no filter, and its length is looked at behind taps and form.
+        nothing = numpy.empty(0, numpy.int64)
+        self._make(nothing, nothing)
+        if self._ask(_lib.phase_fir_with_in_place, nothing)[0] == E_TAPS:
+            raise TapsError
+        self._state = numpy.zeros(self.delay + len(self.taps), numpy.int64)
+        self._puts = numpy.zeros(len(self.again), numpy.int64)
+
+    def _make(self, state, puts):
+        self._state, self._puts, self._lock = state, puts, threading.RLock()
+        self._weights = numpy.concatenate((self.taps, self.again))
+        single, low, high = _fir_single(self.single)
+        self._form = _FirForm(
+            self.shift, single, self.plus, self.delay, len(self.again), low, high
+        )
 
     def __call__(self, samples: ArrayLike) -> NDArray[numpy.int64]:
         """The value at each sample of a block."""
         block = _whole(samples)
         out = numpy.empty_like(block)
-        self._filter(_lib.phase_fir, block, out)
+        self._filter(_lib.phase_fir_with, block, out)
         return out
 
     def in_place(self, block: NDArray[numpy.int64]) -> None:
         """Filters a row of int64 without gaps, and writes the values over its samples. At TooBig
         the values before it are written, and the samples behind them stay."""
-        self._filter(_lib.phase_fir_in_place, _row(block))
+        self._filter(_lib.phase_fir_with_in_place, _row(block))
+
+    def _ask(self, call, *rows):
+        """What libphase answers to a block, and how many values are right."""
+        done = ctypes.c_size_t()
+        with _alone(self._lock):
+            rows = (self._state, self._puts, *rows)
+            lent = [word for row in rows for word in (row.ctypes.data, len(row))]
+            weights = self._weights
+            return call(weights.ctypes.data, len(weights), self._form, *lent, done), done.value
 
     def _filter(self, call, *rows):
-        done = ctypes.c_size_t()
-        lent = [word for row in rows for word in (row.ctypes.data, len(row))]
-        with _alone(self._lock):
-            state = self._state.ctypes.data, len(self._state)
-            status = call(self.taps.ctypes.data, len(self.taps), self.shift, *state, *lent, done)
+        status, done = self._ask(call, *rows)
         if status == E_TAPS:
             raise TapsError
         if status == E_TOO_BIG:
-            why = TooBig("a block", done.value)
-            why.values = rows[-1][: done.value]
+            why = TooBig("a block", done)
+            why.values = rows[-1][:done]
             raise why
         _done(status)
 
     def __repr__(self) -> str:
-        return f"Fir({self.taps.tolist()}, shift={self.shift})"
+        plain = {"plus": 0, "delay": 0, "again": [], "single": None}
+        form = {name: getattr(self, name) for name in plain} | {"again": self.again.tolist()}
+        told = [f", {name}={it!r}" for name, it in form.items() if it != plain[name]]
+        return f"Fir({self.taps.tolist()}, shift={self.shift}{''.join(told)})"
 
     def __getstate__(self):
+        made = self.taps, self.again, self.shift, self.plus, self.delay, self.single
         with _alone(self._lock):
-            return self.taps, self.shift, self._state.copy()
+            return made, self._state.copy(), self._puts.copy()
 
     def __setstate__(self, whole):
-        self.taps, self.shift, self._state = whole
-        self.taps.flags.writeable = False
-        self._lock = threading.RLock()
+        made, state, puts = whole
+        self.taps, self.again, self.shift, self.plus, self.delay, self.single = made
+        self.taps.flags.writeable = self.again.flags.writeable = False
+        self._make(state, puts)
 
 
 class Phaser:
@@ -924,6 +969,16 @@ def _single(single):
     if min(low, high) < -(2**63) or max(low, high) > 2**63 - 1:
         raise BadSingle
     return CLAMP, low, high
+
+
+def _fir_single(single):
+    """The same of a filter, for which a clamp may also be three in a row."""
+    if type(single) is tuple and len(single) == 3 and single[0] == "clamp":
+        single = Clamp(*single[1:])
+    try:
+        return _single(single)
+    except BadSingle:
+        raise TapsError from None
 
 
 def _done(status):
