@@ -519,7 +519,7 @@ static inline const char *phase_status_text(int32_t status)
     case PHASE_E_TOO_BIG: return "a value out of range";
     case PHASE_E_ROOM: return "too little room for what is to be written";
     case PHASE_E_MEMORY: return "out of memory";
-    case PHASE_E_TAPS: return "no filter has these taps and this shift";
+    case PHASE_E_TAPS: return "no filter has these taps and this shift or form";
     case PHASE_E_NO_STREAM: return "there is no stream";
     case PHASE_E_HAS_STREAM: return "there is a stream already";
     case PHASE_E_NO_SOURCE: return "the graph has not so many sources";

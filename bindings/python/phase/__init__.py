@@ -263,10 +263,14 @@ class TooBig(Error, OverflowError):
 
 
 class TapsError(Error, ValueError):
-    """A filter has 1 to 64 taps of at most 2**31 - 1, and a shift of at most 62."""
+    """A filter has 1 to 64 taps of at most 2**31 - 1, with a form 1 to 1,024 and up to 64 again, and
+    a shift of at most 62. The form's `plus` is at most 2**62, its `delay` at most 65,536."""
 
     def __str__(self) -> str:
-        return "a filter has 1 to 64 taps of at most 2**31 - 1, and a shift of at most 62"
+        return (
+            "a filter has 1 to 64 taps of at most 2**31 - 1, with a form 1,024, and a shift of at "
+            "most 62, a plus of at most 2**62 and a delay of at most 65,536"
+        )
 
 
 class Values(dict[str, NDArray[numpy.int64]]):
