@@ -153,6 +153,42 @@ static int filters_in_place(long request)
     return is_done;
 }
 
+/* The same of blocks through a filter that weighs what it put, beside and over their samples. */
+static int filters_again(long request, int is_in_place)
+{
+    const phase_fir_form form = {.again = 1};
+    const int64_t taps[2] = {1, 1};
+    int64_t state[1] = {4}, puts[1] = {3}, block[2] = {1, 2}, out[2] = {1, 2};
+    size_t done = 77;
+    granted = request;
+    int32_t status =
+        is_in_place
+            ? phase_fir_with_in_place(taps, 2, &form, state, 1, puts, 1, out, 2, &done)
+            : phase_fir_with(taps, 2, &form, state, 1, puts, 1, block, 2, out, 2, &done);
+    int is_done = granted >= 0;
+    granted = -1;
+    if (status == PHASE_E_MEMORY && !is_done && done == 0 && state[0] == 4 && puts[0] == 3
+        && out[0] == 1 && out[1] == 2)
+        refused++;
+    else if (status == PHASE_OK && done == 2 && state[0] == 2 && puts[0] == 6 && out[0] == 4
+             && out[1] == 6)
+        right++;
+    else
+        wrong++, printf("memory: status %d of a form after request %ld was refused\n", (int)status,
+                        request);
+    return is_done;
+}
+
+static int filters_formed(long request)
+{
+    return filters_again(request, 0);
+}
+
+static int filters_formed_in_place(long request)
+{
+    return filters_again(request, 1);
+}
+
 /* With no memory at all a filter tells of its taps, its state and its room all the same, and of
  * memory behind them. */
 static void without_memory(void)
@@ -358,6 +394,8 @@ int main(void)
     all_refused(all_names);
     all_refused(filters);
     all_refused(filters_in_place);
+    all_refused(filters_formed);
+    all_refused(filters_formed_in_place);
     all_refused(phasers);
     all_refused(blocks);
     all_refused(streams);
@@ -365,6 +403,6 @@ int main(void)
     /* With no request refused each has answered once. */
     printf("memory: %ld requests, each refused in turn: %ld told, %ld answered all the same, %ld "
            "wrong\n",
-           requests, refused, right - 8, wrong);
-    return wrong != 0 || refused == 0 || right < 8;
+           requests, refused, right - 10, wrong);
+    return wrong != 0 || refused == 0 || right < 10;
 }

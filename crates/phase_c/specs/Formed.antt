@@ -21,7 +21,7 @@ pub record NamesForm (lent : PhaseFirForm) (form : Form) : Type 0 where
   pub names : Names lent.single lent.low lent.high form.single
 
 -- these numbers name a form of which this holds
-pub record IsNamed (lent : PhaseFirForm) (Fact : Form → Type 0) : Type 0 where
+pub record NamesSome (lent : PhaseFirForm) (Fact : Form → Type 0) : Type 0 where
   pub form : Form
   pub names : NamesForm lent form
   pub fact : Fact form
@@ -59,7 +59,7 @@ pub record FiltersFormed (taps : List ℤ) (form : Form) (state puts block old n
   pub behind : drop count new ≡ drop count old
 
 -- state and puts show the block too
-pub record ShowsMore (taps : List ℤ) (form : Form) (state new_state puts new_puts block : List ℤ)
+pub record ShowsBlock (taps : List ℤ) (form : Form) (state new_state puts new_puts block : List ℤ)
     : Type 0 where
   pub shows : (before : List ℤ) → ShowsStream taps form state puts before
       → ShowsStream taps form new_state new_puts (before ++ block)
@@ -70,7 +70,7 @@ pub record ShowsMore (taps : List ℤ) (form : Form) (state new_state puts new_p
 pub record FiltersAllFormed (taps : List ℤ) (form : Form)
     (state new_state puts new_puts block old new : List ℤ) (done : ℕ) : Type 0 where
   pub filters : FiltersFormed taps form state puts block old new (length block)
-  pub more : ShowsMore taps form state new_state puts new_puts block
+  pub more : ShowsBlock taps form state new_state puts new_puts block
   pub done_is : done ≡ length block
 
 -- the block went through up to the first output that is out of range
@@ -87,18 +87,18 @@ pub record FiltersToFormed (taps : List ℤ) (form : Form) (state puts block old
 abbrev pub RefusesFormed : List ℤ → PhaseFirForm → List ℤ → List ℤ → List ℤ → List ℤ → List ℤ → ℕ
     → FilterRefusal → Type 0
 RefusesFormed taps lent state puts block old new done refusal.Taps =
-    FiltersNone (¬ (IsNamed lent (AreTaps taps))) old new done
+    FiltersNone (¬ (NamesSome lent (AreTaps taps))) old new done
 RefusesFormed taps lent state puts block old new done refusal.Counts =
-    FiltersNone (IsNamed lent
+    FiltersNone (NamesSome lent
     (λ form. AreTaps taps form × ¬ (AreReached taps form state puts))) old new done
 RefusesFormed taps lent state puts block old new done refusal.Room =
-    FiltersNone (IsNamed lent (λ form. AreOfForm taps form state puts)
+    FiltersNone (NamesSome lent (λ form. AreOfForm taps form state puts)
     × (length old < length block)) old new done
 RefusesFormed taps lent state puts block old new done refusal.OutOfMemory =
-    FiltersNone (IsNamed lent (λ form. AreOfForm taps form state puts)
+    FiltersNone (NamesSome lent (λ form. AreOfForm taps form state puts)
     × (length block ≤ length old)) old new done
 RefusesFormed taps lent state puts block old new done refusal.TooBig =
-    IsNamed lent (λ form. FiltersToFormed taps form state puts block old new done)
+    NamesSome lent (λ form. FiltersToFormed taps form state puts block old new done)
 
 -- a block was refused: it is told why
 pub record FormedStops (taps : List ℤ) (lent : PhaseFirForm) (state puts block old new : List ℤ)

@@ -2,7 +2,7 @@
 ghost use Rattle.std.specs.Prelude.{◌≡◌, ◌≢◌, pos, length, IfOk, IfErr};
 ghost use Rattle.stream_filters.specs.Filter.{by_shift};
 ghost use Rattle.phase_c.specs.Filtered.{FilterStops, FiltersAll};
-ghost use Rattle.phase_c.specs.Formed.{FiltersAllFormed, FormedStops, IsNamed, StateStays};
+ghost use Rattle.phase_c.specs.Formed.{FiltersAllFormed, FormedStops, NamesSome, StateStays};
 ghost use Rattle.phase_c.specs.Names.{WritesNames, all_names_text, names_text};
 ghost use Rattle.phase_c.specs.Refusals.{IsDone, RefusesText};
 ghost use Rattle.phase_c.specs.Told.{CheckIsRefused, Counted, EvalIsRefused, NamesStop, version};
@@ -239,13 +239,15 @@ pub extern "C" fn phase_fir_with(
     out: &mut [i64],
     done: &mut usize,
 ) -> i32
-    ensures all { result ≡ pos 0 → IsNamed form.now (λ named. FiltersAllFormed taps.now named
+    ensures all { result ≡ pos 0 → NamesSome form.now (λ named. FiltersAllFormed taps.now named
         state.old state.new puts.old puts.new block.now out.old out.new done.new) }
     ensures stops { result ≢ pos 0 → FormedStops taps.now form.now state.old puts.old block.now
         out.old out.new done.new result }
     ensures same { result ≢ pos 0 → StateStays state.old state.new puts.old puts.new }
 {
-    match filter_formed(alloc, taps, form, state, puts, block, out, done) {
+    let (count, outcome) = filter_formed(alloc, taps, form, state, puts, block, out);
+    *done = count;
+    match outcome {
         Ok(()) => 0,
         Err(why) => filter_status_of(why),
     }
@@ -267,7 +269,7 @@ pub extern "C" fn phase_fir_with_in_place(
     block: &mut [i64],
     done: &mut usize,
 ) -> i32
-    ensures all { result ≡ pos 0 → IsNamed form.now (λ named. FiltersAllFormed taps.now named
+    ensures all { result ≡ pos 0 → NamesSome form.now (λ named. FiltersAllFormed taps.now named
         state.old state.new puts.old puts.new block.old block.old block.new done.new) }
     ensures stops { result ≢ pos 0 → FormedStops taps.now form.now state.old puts.old block.old
         block.old block.new done.new result }

@@ -3,7 +3,7 @@
 ghost use Rattle.std.specs.Prelude.{◌≡◌, ◌↔◌, ◌≤◌, ℤ, List, length, IsTrue, IfSome, Some, OnOk, OnErr, IfOk, IfErr};
 ghost use Rattle.stream_filters.specs.Filter.{AreTaps, StandsFor};
 ghost use Rattle.stream_filters.specs.declared.form.Form.{Form as FormValue};
-ghost use Rattle.phase_c.specs.Formed.{AreOfForm, AreReached, FiltersAllFormed, IsNamed, NamesForm, RefusesFormed, ShowsStream, StateStays};
+ghost use Rattle.phase_c.specs.Formed.{AreOfForm, AreReached, FiltersAllFormed, NamesSome, NamesForm, RefusesFormed, ShowsStream, StateStays};
 
 use crate::filter::{FilterRefusal, keep, steps};
 use crate::in_place::steps_in_place;
@@ -99,8 +99,8 @@ fn formed_behind(
     Ok(fir)
 }
 
-/// Filters a block behind what a state and puts show, writes how many values are right, and keeps
-/// the last samples and the last puts where all are.
+/// Filters a block behind what a state and puts show, and keeps the last samples and the last puts
+/// where all values are right. Returns how many are, and why no more.
 pub(crate) fn filter_formed(
     alloc: Global,
     taps: &[i64],
@@ -109,26 +109,24 @@ pub(crate) fn filter_formed(
     puts: &mut [i64],
     block: &[i64],
     out: &mut [i64],
-    done: &mut usize,
-) -> Result<(), FilterRefusal>
-    ensures done { OnOk result (IsNamed lent.now (λ form. FiltersAllFormed taps.now form
-        state.old state.new puts.old puts.new block.now out.old out.new done.new)) }
-    ensures refused { IfErr result (λ why. RefusesFormed taps.now lent.now state.old puts.old
-        block.now out.old out.new done.new why) }
-    ensures same { OnErr result (StateStays state.old state.new puts.old puts.new) }
+) -> (usize, Result<(), FilterRefusal>)
+    ensures done { OnOk result.1 (NamesSome lent.now (λ form. FiltersAllFormed taps.now form
+        state.old state.new puts.old puts.new block.now out.old out.new result.0)) }
+    ensures refused { IfErr result.1 (λ why. RefusesFormed taps.now lent.now state.old puts.old
+        block.now out.old out.new result.0 why) }
+    ensures same { OnErr result.1 (StateStays state.old state.new puts.old puts.new) }
 {
-    *done = 0;
     let mut fir = match formed_behind(alloc, taps, lent, state, puts, block.len(), out.len()) {
         Ok(fir) => fir,
-        Err(why) => return Err(why),
+        Err(why) => return (0, Err(why)),
     };
-    *done = steps(&mut fir, block, out);
-    if *done < block.len() {
-        return Err(FilterRefusal::TooBig);
+    let done = steps(&mut fir, block, out);
+    if done < block.len() {
+        return (done, Err(FilterRefusal::TooBig));
     }
     keep(state, block);
     keep(puts, &out[..block.len()]);
-    Ok(())
+    (done, Ok(()))
 }
 
 /// Filters a block behind what a state and puts show, each value over its sample, writes how many
@@ -142,7 +140,7 @@ pub(crate) fn formed_in_place(
     block: &mut [i64],
     done: &mut usize,
 ) -> Result<(), FilterRefusal>
-    ensures done { OnOk result (IsNamed lent.now (λ form. FiltersAllFormed taps.now form
+    ensures done { OnOk result (NamesSome lent.now (λ form. FiltersAllFormed taps.now form
         state.old state.new puts.old puts.new block.old block.old block.new done.new)) }
     ensures refused { IfErr result (λ why. RefusesFormed taps.now lent.now state.old puts.old
         block.old block.old block.new done.new why) }

@@ -7,8 +7,8 @@ use std::fmt;
 #[derive(Clone, Copy, Debug, PartialEq, Eq)]
 #[non_exhaustive]
 pub enum FirError {
-    /// There are 1 to 1,024 taps for samples, and at most 64 for what the filter put, of a
-    /// magnitude of at most 2^31 - 1; or a number of the form is past its limit.
+    /// There are 1 to 64 taps of a magnitude of at most 2^31 - 1, and a shift is at most 62; or
+    /// with a form 1 to 1,024 taps that weigh samples, and numbers that [`FirForm`] allows.
     Taps,
     /// The output is shorter than the block.
     Room,
@@ -24,7 +24,7 @@ pub enum FirError {
 impl fmt::Display for FirError {
     fn fmt(&self, f: &mut fmt::Formatter<'_>) -> fmt::Result {
         match self {
-            FirError::Taps => f.write_str("no filter has these taps, or this shift or form"),
+            FirError::Taps => f.write_str("no filter has these taps and this shift or form"),
             FirError::Room => f.write_str("the output is shorter than the block"),
             FirError::TooBig { done } => write!(f, "value {done} of a block is out of range"),
             FirError::OutOfMemory => f.write_str("out of memory"),
@@ -34,30 +34,27 @@ impl fmt::Display for FirError {
 
 impl std::error::Error for FirError {}
 
-/// What a filter does beside weighing its newest samples. The default does no more.
-///
-/// The value at a sample is the sum of each tap times the sample so far back, and of each tap of
-/// `again` times the value that the filter put so far back, from the one before on. `plus` is
-/// added, the sum is divided by 2 to the power of `shift` and rounded down, and `single` is applied
-/// before the range is looked at, so that a clamp saturates.
-#[derive(Clone, Debug, Default, PartialEq, Eq)]
+/// The form of a filter: all of it but its taps. By default it weighs samples alone.
+#[derive(Clone, Copy, Debug, Default, PartialEq, Eq, Hash)]
 pub struct FirForm {
-    /// By how many bits each sum is shifted down: 62 at most.
+    /// By how many bits each sum is shifted down, at most 62.
     pub shift: u32,
-    /// What is added to each sum before: a magnitude of 2^62 at most.
+    /// What is added to each sum before it is shifted, of a magnitude of at most 2^62.
     pub plus: i64,
-    /// How far back the sample is that the first tap weighs: 65,536 samples at most.
+    /// How many samples before the newest one the first tap weighs, at most 65,536.
     pub delay: usize,
-    /// The taps that weigh what the filter put, 64 at most.
-    pub again: Vec<i64>,
-    /// What is applied to each value.
+    /// How many of the taps, the last ones, weigh what the filter put, at most 64: the first of
+    /// them what it put last.
+    pub again: usize,
+    /// What is done with each number behind the shift, before its range is looked at: so a clamp
+    /// saturates. The low end of a clamp is at most its high end, and neither is `i64::MIN`.
     pub single: Option<Single>,
 }
 
-/// A filter that goes on where the block before ended.
+/// A filter, which goes on where the block before ended.
 ///
 /// The value at a sample is the sum of each tap times the sample so far back, divided by 2 to the
-/// power of the shift and rounded down; [FirForm] has more.
+/// power of the shift and rounded down. With a form the last taps may weigh what it put before.
 ///
 /// ```
 /// let mut sums = phase::Fir::new(&[1, 1], 0)?;
@@ -71,7 +68,6 @@ pub struct FirForm {
 /// ```
 #[derive(Clone, Debug, PartialEq, Eq)]
 pub struct Fir {
-    // Those for samples, and behind them those for what it put.
     taps: Vec<i64>,
     form: PhaseFirForm,
     state: Vec<i64>,
@@ -79,16 +75,19 @@ pub struct Fir {
 }
 
 impl Fir {
-    /// Returns a filter of these taps and this shift, before its first sample.
+    /// Returns a filter before its first sample.
     ///
     /// # Errors
     ///
     /// It is refused as `Taps` or `OutOfMemory`.
     pub fn new(taps: &[i64], shift: u32) -> Result<Fir, FirError> {
-        Fir::with(taps, &FirForm { shift, ..FirForm::default() })
+        if taps.len() > PHASE_TAPS_MAX {
+            return Err(FirError::Taps);
+        }
+        Fir::with(taps, FirForm { shift, ..FirForm::default() })
     }
 
-    /// Returns a filter of these taps and this form, before its first sample.
+    /// Returns a filter of this form before its first sample.
     ///
     /// # Errors
     ///
@@ -98,28 +97,28 @@ impl Fir {
     ///
     /// ```
     /// use phase::{Fir, FirForm, Single};
-    ///
-    /// let single = Some(Single::Clamp { low: -9, high: 9 });
-    /// let mut sum = Fir::with(&[1], &FirForm { again: vec![1], single, ..FirForm::default() })?;
-    /// let mut block = [4, 4, 4, -1];
-    /// sum.filter_in_place(&mut block)?;
-    /// assert_eq!(block, [4, 8, 9, 8]);
+    /// let form = FirForm {
+    ///     again: 1,
+    ///     single: Some(Single::Clamp { low: -5, high: 5 }),
+    ///     ..FirForm::default()
+    /// };
+    /// let mut so_far = Fir::with(&[1, 1], form)?;
+    /// let mut block = [3, 3, 3, -20];
+    /// so_far.filter_in_place(&mut block)?;
+    /// assert_eq!(block, [3, 5, 5, -5]);
     /// # Ok::<(), phase::FirError>(())
     /// ```
-    pub fn with(taps: &[i64], form: &FirForm) -> Result<Fir, FirError> {
-        let (single, low, high) = numbers_of(form.single);
-        let (shift, plus, delay, again) = (form.shift, form.plus, form.delay, form.again.len());
-        let mut fir = Fir {
-            taps: [taps, &form.again].concat(),
-            form: PhaseFirForm { shift, single, plus, delay, again, low, high },
-            state: Vec::new(),
-            puts: vec![0; again],
-        };
-        if taps.is_empty() || delay > PHASE_DELAY_MAX {
+    pub fn with(taps: &[i64], form: FirForm) -> Result<Fir, FirError> {
+        let FirForm { shift, plus, delay, again, single } = form;
+        let (single, low, high) = numbers_of(single);
+        let form = PhaseFirForm { shift, single, plus, delay, again, low, high };
+        let mut fir = Fir { taps: taps.to_vec(), form, state: Vec::new(), puts: Vec::new() };
+        // A state of no sample fits no filter, and its length is looked at behind taps and form.
+        if fir.over(&mut [], &mut 0) == PHASE_E_TAPS {
             return Err(FirError::Taps);
         }
-        fir.state.resize(delay + taps.len(), 0);
-        // A block of no sample tells whether there is such a filter.
+        fir.state = vec![0; delay + (taps.len() - again)];
+        fir.puts = vec![0; again];
         fir.filter_in_place(&mut [])?;
         Ok(fir)
     }
@@ -170,8 +169,14 @@ impl Fir {
     /// ```
     pub fn filter_in_place(&mut self, block: &mut [i64]) -> Result<(), FirError> {
         let mut done = 0;
+        let status = self.over(block, &mut done);
+        told(status, done)
+    }
+
+    /// What libphase answers to a block whose values are written over its samples.
+    fn over(&mut self, block: &mut [i64], done: &mut usize) -> i32 {
         // SAFETY: as above.
-        let status = unsafe {
+        unsafe {
             phase_fir_with_in_place(
                 self.taps.as_ptr(),
                 self.taps.len(),
@@ -182,10 +187,9 @@ impl Fir {
                 self.puts.len(),
                 block.as_mut_ptr(),
                 block.len(),
-                &mut done,
+                done,
             )
-        };
-        told(status, done)
+        }
     }
 }
 

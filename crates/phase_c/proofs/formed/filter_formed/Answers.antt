@@ -11,15 +11,15 @@ returns-in-Err-clause-refused c =
 pub returns-then-done-block-clause-refused : goal.returns-then-done-block-clause-refused
 returns-then-done-block-clause-refused c =
     let block = c.args.block.now in
-    let n : ℕ = c.steps.result in
+    let n : ℕ = c.steps-done.result in
     let made = c.in-Ok.ensures in
-    let went = c.steps.ensures in
+    let went = c.steps-done.ensures in
     let less : n < length block = omega (arith, c.if-done-block.true) in
     record {
       form = c.in-Ok.fir.form;
       names = made.form;
       fact = formed_to c.args.taps.now c.args.state.now c.args.puts.now block c.args.out.now
-          c.steps.new.out n c.in-Ok.fir made.of_form made.taps made.stands made.room went.written
+          c.steps-done.new.out n c.in-Ok.fir made.of_form made.taps made.stands made.room went.written
           went.fits went.behind less went.too_big;
     }
 
@@ -27,16 +27,16 @@ returns-then-done-block-clause-refused c =
 pub returns-clause-done : goal.returns-clause-done
 returns-clause-done c =
     let block = c.args.block.now in
-    let out = c.steps.new.out in
-    let n : ℕ = c.steps.result in
+    let out = c.steps-done.new.out in
+    let n : ℕ = c.steps-done.result in
     let made = c.in-Ok.ensures in
-    let went = c.steps.ensures in
+    let went = c.steps-done.ensures in
     let all : n ≡ length block = omega (arith, went.few, c.if-done-block.false) in
     record {
       form = c.in-Ok.fir.form;
       names = made.form;
       fact = formed_all c.args.taps.now c.args.state.now c.args.puts.now block c.args.out.now
-          c.steps.new.out n c.in-Ok.fir made.of_form made.taps made.stands made.room went.written
+          c.steps-done.new.out n c.in-Ok.fir made.of_form made.taps made.stands made.room went.written
           went.fits went.behind c.keep.new.state c.keep-2.new.state all c.keep.ensures
           (c.keep-2.ensures ∙ ap (λ k. drop (length (take k out)) (c.args.puts.now ++ take k out)) (sym all));
     }
