@@ -59,9 +59,10 @@ pub struct TaskLine {
     pub parent: Option<Parent>,
     /// After how many steps it drops, at most `STEPS_MAX`.
     pub until: Option<u64>,
-    /// The taps of a filter.
+    /// The taps of a filter: those for samples, and behind them those for what it put.
     pub taps: Vec<i64>,
-    /// The form of a filter: its shift, what it adds, and its delay.
+    /// The form of a filter: its shift, what it adds, its delay, how many taps are for what it put,
+    /// and its single.
     pub form: Form,
     /// The factor of a peer, of a magnitude of at most `FACTOR_MAX`.
     pub mul: i64,
