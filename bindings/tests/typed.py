@@ -6,6 +6,8 @@ def meets(own: phase.Registration) -> int:
     return own.next(5, "neg").phase
 
 
+print(phase.Fir([1], again=[1], single=("clamp", -5, 5))([3, 3]).tolist())
+print(phase.Fir([1, 1], 1, plus=1, delay=2, single="abs")([3, 3]).tolist())
 phaser = phase.Phaser(phase.SUM, 2, 10)
 phaser.register(0, phase.SIG)
 phaser.signal(0, 5, phase.HALVE)

@@ -263,8 +263,8 @@ class TooBig(Error, OverflowError):
 
 
 class TapsError(Error, ValueError):
-    """A filter has 1 to 64 taps of at most 2**31 - 1, with a form 1 to 1,024 and up to 64 again, and
-    a shift of at most 62. The form's `plus` is at most 2**62, its `delay` at most 65,536."""
+    """A filter has 1 to 64 taps of at most 2**31 - 1, with a form 1 to 1,024 and up to 64 again,
+    and a shift of at most 62. The form's `plus` is at most 2**62, its `delay` at most 65,536."""
 
     def __str__(self) -> str:
         return (
@@ -643,7 +643,7 @@ class Fir:
 
     def __init__(
         self, taps: ArrayLike, shift: int = 0, *, plus: int = 0, delay: int = 0,
-        again: ArrayLike = (), single: Union[str, tuple[str, int, int], None] = None,
+        again: ArrayLike = (), single: Union[str, Single, Clamp, tuple[str, int, int], None] = None,
     ):
         self.taps, self.again = _whole(taps, _TAPS).copy(), _whole(again, _TAPS).copy()
         self.taps.flags.writeable = self.again.flags.writeable = False

@@ -18,8 +18,8 @@ abbrev pub first_outputs : List ℤ → Form → List ℤ → List ℤ → ℕ �
 first_outputs taps form before block n =
     map (output_in_block taps form before block) (range_with_len 0 n)
 
--- a state of as many samples as a filter looks back to, less one, shows the samples so far: it has
--- the last ones, and 0 before the first
+-- a state shows the samples so far: it has the last ones, as many as it is long, and 0 before the
+-- first
 abbrev pub ShowsLast : List ℤ → List ℤ → Type 0
 ShowsLast state samples = (j : ℕ) → j < length state → back state j ≡ back samples j
 

@@ -1,4 +1,4 @@
-//! Filters of any form: values worked out by hand, fed whole, in place and one by one, and refusals.
+//! Filters of any form: values worked out by hand, fed whole, in place and one by one; refusals.
 use phase::{Fir, FirError, FirForm, Single};
 
 fn form() -> FirForm {
