@@ -1,4 +1,4 @@
-use Rattle.std.proofs.Common.{◌≡◌, ◌<◌, ℕ, length, refl, ◌∙◌, arith}
+use Rattle.std.proofs.Common.{◌≡◌, ◌<◌, ℕ, length, refl, arith}
 use Rattle.stream_filters.specs.Filter.{by_shift}
 use Rattle.phase_c.proofs.Streams.{filters_all, filters_to}
 use Rattle.phase_c.proofs.filter.filter_block.Goals as goal
