@@ -30,14 +30,16 @@ samples() {
     }'
 }
 
-# chain FILTERS BOUND: a source of samples.csv, so many filters of 64 taps one behind the other, and
-# a sink, on phasers of this bound.
+# chain FILTERS BOUND [SHIFT]: a source of samples.csv, so many filters of 64 taps one behind the
+# other, and a sink, on phasers of this bound; 12 is the shift where none is said, by which values
+# grow from filter to filter.
 chain() {
-    awk -v filters="$1" -v bound="$2" 'BEGIN {
+    awk -v filters="$1" -v bound="$2" -v shift="${3:-12}" 'BEGIN {
         for (j = 0; j < 64; j++) taps = taps " " (j % 2 == 0 ? 1000 + j : j - 900)
         for (f = 0; f <= filters; f++) print "phaser X" f " sum " bound
         print "source s samples.csv -> X0"
-        for (f = 0; f < filters; f++) print "fir f" f " X" f " -> X" f + 1 " shift 12 taps" taps
+        for (f = 0; f < filters; f++)
+            print "fir f" f " X" f " -> X" f + 1 " shift " shift " taps" taps
         print "sink out X" filters
     }'
 }
