@@ -376,7 +376,7 @@ def threads(examples):
 
 def main(folder):
     examples = [Example(path) for path in sorted(pathlib.Path(folder).glob("*.graph"))]
-    look("ten graphs", len(examples) == 10)
+    look("twelve graphs", len(examples) == 12)
     graphs(examples)
     moving_sums()
     unequal()

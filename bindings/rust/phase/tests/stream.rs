@@ -54,7 +54,7 @@ fn examples() -> Vec<Example> {
         let sinks = stored(&text_of(&path.with_extension("stdout")));
         found.push(Example { text, sources, sinks });
     }
-    assert_eq!(found.len(), 10);
+    assert_eq!(found.len(), 12);
     found
 }
 
